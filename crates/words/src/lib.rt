@@ -1,0 +1,4 @@
+// Numbers: ids of 32 bytes, sums that stop, products and quotients of two words.
+pub mod ids;
+pub mod sums;
+pub mod wide;
