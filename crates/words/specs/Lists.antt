@@ -188,3 +188,19 @@ once-last b l h k = go (eqb b k) refl
     go : (t : Bool) → eqb b k ≡ t → count k (keep (other b) l ++ (b ∷ [])) ≤ 1
     go true q = rw (← eqb-true b k q) (rw (count-append b (keep (other b) l) (b ∷ []), count-other b l, eq-eqb b b refl) (omega arith))
     go false q = rw (count-append k (keep (other b) l) (b ∷ []), q) (omega (arith, count-keep k (other b) l, h k))
+
+-- ---- lists laid end to end
+
+module _ {A B : Type 0} where
+  abbrev pub flat : (A → List B) → List A → List B
+  flat f [] = []
+  flat f (x ∷ xs) = f x ++ flat f xs
+
+  pub flat-append : (f : A → List B) (a b : List A) → flat f (a ++ b) ≡ flat f a ++ flat f b
+  flat-append f [] b = refl
+  flat-append f (x ∷ a) b = rw (flat-append f a b) (sym (append-assoc (f x) (flat f a) (flat f b)))
+
+module _ {A B C : Type 0} (g : B → C) where
+  pub map-flat : (f : A → List B) (l : List A) → map g (flat f l) ≡ flat (λ x. map g (f x)) l
+  map-flat f [] = refl
+  map-flat f (x ∷ l) = map-append g (f x) (flat f l) ∙ ap (λ (r : List C). map g (f x) ++ r) (map-flat f l)
