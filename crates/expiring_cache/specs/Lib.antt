@@ -1,0 +1,4 @@
+pub mod Cache
+pub mod Layout
+pub mod Steps
+pub mod Laws
