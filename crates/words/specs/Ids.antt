@@ -15,6 +15,10 @@ use Rattle.words.specs.declared.ids.Id.{Id}
 pub join : ℕ → ℕ → ℕ
 join p w = p * 2 ^ 64 + w
 
+pub join-is : (p w : ℕ) → join p w ≡ p * 2 ^ 64 + w
+unfolding join
+join-is p w = refl
+
 -- the number of four words: a * 2 ^ 192 + b * 2 ^ 128 + c * 2 ^ 64 + d
 abbrev pub num : ℕ → ℕ → ℕ → ℕ → ℕ
 num a b c d = join (join (join a b) c) d

@@ -3,5 +3,7 @@ pub mod Find
 pub mod Rows
 pub mod Tables
 pub mod Ids
+pub mod Bytes
 pub mod Sums
 pub mod Wide
+pub mod Divide

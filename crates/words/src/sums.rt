@@ -7,20 +7,12 @@ ghost use Rattle.words.specs.Sums.{capped};
 pub fn saturating_add(a: u64, b: u64) -> u64
     ensures { λ r. ⌜ r ≡ capped (a + b) ⌝ }
 {
-    if a <= u64::MAX - b {
-        a + b
-    } else {
-        u64::MAX
-    }
+    if a <= u64::MAX - b { a + b } else { u64::MAX }
 }
 
 // a − b, or 0 where that would be negative.
 pub fn saturating_sub(a: u64, b: u64) -> u64
     ensures { λ r. ⌜ r ≡ a - b ⌝ }
 {
-    if b <= a {
-        a - b
-    } else {
-        0
-    }
+    if b <= a { a - b } else { 0 }
 }
