@@ -65,6 +65,16 @@ pub enum Source {
     Peer(u64),
 }
 
+// A submission, but for its lists of inputs and outputs.
+pub struct Submission {
+    pub time: u64,
+    pub id: Id,
+    pub size: u64,
+    pub preheader: u32,
+    pub source: Source,
+    pub verdict: Verdict,
+}
+
 // ---- outcomes. A refusal carries document 01's number; `specs/Outcomes.antt` gives number and values of every case.
 
 pub enum StartOutcome {
