@@ -1,0 +1,9 @@
+pub mod Records
+pub mod Among
+pub mod Entering
+pub mod Flat
+pub mod Layout
+pub mod Mapped
+pub mod Writing
+pub mod Posts
+pub mod IndexLaws

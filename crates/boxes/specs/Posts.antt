@@ -1,0 +1,27 @@
+-- What the functions that change the records promise: the words before are l, those after are m.
+use Prim.Native.Nat.{ℕ, _+_, _≤_}
+use mathlib.Core.Path.{_≡_}
+use mathlib.Core.Bool.{Bool, true, false}
+use mathlib.Core.List.{List, [], _∷_, _++_}
+use lib.ListN.{length}
+use Rattle.boxes.specs.Records.{enterTx, dropOwner}
+use Rattle.boxes.specs.Entering.{newBoxes}
+use Rattle.boxes.specs.Layout.{boxesOf}
+
+-- transaction k has entered with n records, and r are used now
+pub record Entered (l m : List ℕ) (used n r k : ℕ) (ins outs : List ℕ) : Type 0 where
+  pub kept : length m ≡ length l
+  pub count : r ≡ used + n
+  pub rows : boxesOf m r ≡ enterTx k ins outs (boxesOf l used)
+
+-- transaction k has left, and r records are used now
+pub record Dropped (l m : List ℕ) (used r k : ℕ) : Type 0 where
+  pub kept : length m ≡ length l
+  pub fewer : r ≤ used
+  pub count : r ≡ length (dropOwner k (boxesOf l used))
+  pub rows : boxesOf m r ≡ dropOwner k (boxesOf l used)
+
+-- the n records of a list of boxes, of one kind, stand behind the first ones
+pub record Written (l m : List ℕ) (at n r : ℕ) (o : Bool) (k : ℕ) (bs : List ℕ) : Type 0 where
+  pub count : r ≡ at + n
+  pub rows : boxesOf m r ≡ boxesOf l at ++ newBoxes o k bs

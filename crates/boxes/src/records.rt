@@ -1,0 +1,197 @@
+// The box records as the pool changes them: a transaction's records enter, and leave.
+use crate::lists::among;
+use crate::lists::count_of;
+use crate::lists::has;
+use crate::lists::id_at;
+use crate::rows::BoxRow;
+use crate::rows::box_key;
+use crate::rows::box_live;
+use crate::rows::box_out;
+use crate::rows::box_owner;
+use crate::rows::hide_box;
+use crate::rows::move_box;
+use crate::rows::store_box;
+use words::ids::Id;
+use words::ids::same_id;
+ghost use mathlib.Core.Path.{_≡_};
+ghost use mathlib.Core.Bool.{true, false};
+ghost use mathlib.Core.List.{map, _++_};
+ghost use Prim.Native.Nat.{ℕ, _+_, _*_, _≤_, _<_};
+ghost use lib.ListN.{set, drop};
+ghost use Rattle.words.specs.Ids.{idOf, idAt};
+ghost use Rattle.boxes.specs.Flat.{countOf, idsOf};
+ghost use Rattle.boxes.specs.Layout.{BoxesOk, boxAt, boxesOf};
+ghost use Rattle.boxes.specs.Entering.{overtakenBy, hideTx, newBox, newBoxes};
+ghost use Rattle.boxes.specs.Posts.{Entered, Dropped, Written};
+
+// ---- a transaction leaves
+
+// Keeps, in order, the records that another transaction owns, live or not, and returns how many they are.
+pub fn drop_owner(s: &mut [u64], used: usize, owner: Id) -> usize
+    requires { ⌜ BoxesOk (now s) used ⌝ }
+    ensures { λ r. ⌜ Dropped (now (s .entry)) (now (s .exit)) used r (idOf owner) ⌝ }
+{
+    let mut w = 0;
+    let mut r = 0;
+    while r < used {
+        if same_id(box_owner(s, r), owner) {
+            r += 1;
+        } else {
+            move_box(s, r, w);
+            w += 1;
+            r += 1;
+        }
+    }
+    w
+}
+
+// ---- a transaction enters
+
+// Whether the record at index `at` is live and a newcomer with these lists has its box too.
+fn overtaken(
+    s: &[u64],
+    at: usize,
+    inputs: &[u64],
+    in_width: usize,
+    outputs: &[u64],
+    out_width: usize,
+) -> bool
+    requires { ⌜ BoxesOk (now s) (at + 1) ⌝ }
+    requires { ⌜ (4 ≤ «in_width») × (4 ≤ «out_width») ⌝ }
+    ensures { λ r. ⌜ r ≡ overtakenBy (idsOf «in_width» (now (inputs .entry))) (idsOf «out_width» (now (outputs .entry))) (boxAt (now (s .entry)) at) ⌝ }
+{
+    if box_live(s, at) {
+        if box_out(s, at) {
+            has(outputs, out_width, box_key(s, at))
+        } else {
+            has(inputs, in_width, box_key(s, at))
+        }
+    } else {
+        false
+    }
+}
+
+// Hides the record at index `at` if it is overtaken.
+fn hide_one(
+    s: &mut [u64],
+    at: usize,
+    inputs: &[u64],
+    in_width: usize,
+    outputs: &[u64],
+    out_width: usize,
+)
+    requires { ⌜ BoxesOk (now s) (at + 1) ⌝ }
+    requires { ⌜ (4 ≤ «in_width») × (4 ≤ «out_width») ⌝ }
+    ensures { λ _. ⌜ ((m : ℕ) → boxesOf (now (s .exit)) m ≡ set (boxesOf (now (s .entry)) m) at (hideTx (idsOf «in_width» (now (inputs .entry))) (idsOf «out_width» (now (outputs .entry))) (boxAt (now (s .entry)) at))) ⌝ }
+{
+    if overtaken(s, at, inputs, in_width, outputs, out_width) {
+        hide_box(s, at);
+    }
+}
+
+// Hides each record that is overtaken.
+fn hide_older(
+    s: &mut [u64],
+    used: usize,
+    inputs: &[u64],
+    in_width: usize,
+    outputs: &[u64],
+    out_width: usize,
+)
+    requires { ⌜ BoxesOk (now s) used ⌝ }
+    requires { ⌜ (4 ≤ «in_width») × (4 ≤ «out_width») ⌝ }
+    ensures { λ _. ⌜ boxesOf (now (s .exit)) used ≡ map (hideTx (idsOf «in_width» (now (inputs .entry))) (idsOf «out_width» (now (outputs .entry)))) (boxesOf (now (s .entry)) used) ⌝ }
+{
+    let mut i = 0;
+    while i < used {
+        hide_one(s, i, inputs, in_width, outputs, out_width);
+        i += 1;
+    }
+}
+
+// Writes box `i` of a list at index `at` of the free tail. Of a box that the list repeats only the last record is live.
+fn write_record(
+    tail: &mut [u64],
+    at: usize,
+    owner: Id,
+    out: bool,
+    list: &[u64],
+    width: usize,
+    i: usize,
+)
+    requires { ⌜ BoxesOk (now tail) (at + 1) ⌝ }
+    requires { ⌜ (4 ≤ width) × (i < countOf width (now list)) ⌝ }
+    ensures { λ _. ⌜ ((m : ℕ) → boxesOf (now (tail .exit)) m ≡ set (boxesOf (now (tail .entry)) m) at (newBox out (idOf owner) (idAt (now (list .entry)) (i * width)) (drop (i + 1) (idsOf width (now (list .entry)))))) ⌝ }
+{
+    let key = id_at(list, width, i);
+    let again = among(list, width, i + 1, count_of(list, width), key);
+    store_box(
+        tail,
+        at,
+        BoxRow {
+            key,
+            owner,
+            out,
+            live: !again,
+        },
+    );
+}
+
+// Writes the boxes of a list from index `at` of the free tail on, and returns the index behind them.
+fn write_list(
+    tail: &mut [u64],
+    at: usize,
+    owner: Id,
+    out: bool,
+    list: &[u64],
+    width: usize,
+) -> usize
+    requires { ⌜ BoxesOk (now tail) (at + countOf width (now list)) ⌝ }
+    requires { ⌜ 4 ≤ width ⌝ }
+    ensures { λ r. ⌜ Written (now (tail .entry)) (now (tail .exit)) at (countOf width (now (list .entry))) r out (idOf owner) (idsOf width (now (list .entry))) ⌝ }
+{
+    let n = count_of(list, width);
+    let mut i = 0;
+    while i < n {
+        write_record(tail, at + i, owner, out, list, width, i);
+        i += 1;
+    }
+    at + n
+}
+
+// Writes a newcomer's records into the free tail, its inputs and then its outputs, and returns how many they are.
+fn write_records(
+    tail: &mut [u64],
+    owner: Id,
+    inputs: &[u64],
+    in_width: usize,
+    outputs: &[u64],
+    out_width: usize,
+) -> usize
+    requires { ⌜ BoxesOk (now tail) (countOf «in_width» (now inputs) + countOf «out_width» (now outputs)) ⌝ }
+    requires { ⌜ (4 ≤ «in_width») × (4 ≤ «out_width») ⌝ }
+    ensures { λ r. ⌜ (r ≡ countOf «in_width» (now (inputs .entry)) + countOf «out_width» (now (outputs .entry))) × (boxesOf (now (tail .exit)) r ≡ newBoxes false (idOf owner) (idsOf «in_width» (now (inputs .entry))) ++ newBoxes true (idOf owner) (idsOf «out_width» (now (outputs .entry)))) ⌝ }
+{
+    let at = write_list(tail, 0, owner, false, inputs, in_width);
+    write_list(tail, at, owner, true, outputs, out_width)
+}
+
+// A transaction's records enter: older ones of its boxes are hidden, and the free tail is lent to the writer of the new ones. Returns how
+// many records are used then.
+pub fn enter_tx(
+    s: &mut [u64],
+    used: usize,
+    owner: Id,
+    inputs: &[u64],
+    in_width: usize,
+    outputs: &[u64],
+    out_width: usize,
+) -> usize
+    requires { ⌜ BoxesOk (now s) (used + (countOf «in_width» (now inputs) + countOf «out_width» (now outputs))) ⌝ }
+    requires { ⌜ (4 ≤ «in_width») × (4 ≤ «out_width») ⌝ }
+    ensures { λ r. ⌜ Entered (now (s .entry)) (now (s .exit)) used (countOf «in_width» (now (inputs .entry)) + countOf «out_width» (now (outputs .entry))) r (idOf owner) (idsOf «in_width» (now (inputs .entry))) (idsOf «out_width» (now (outputs .entry))) ⌝ }
+{
+    hide_older(s, used, inputs, in_width, outputs, out_width);
+    let from = used * 10;
+    used + write_records(&mut s[from..], owner, inputs, in_width, outputs, out_width)
+}
