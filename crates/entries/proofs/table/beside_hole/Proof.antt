@@ -1,0 +1,17 @@
+-- `table::beside_hole` meets its contract. Assumes nothing.
+use borrow.Author.Tests.{lt-ltb, le-ltb}
+use borrow.Author.Needs.{needs}
+use Rattle.entries.proofs.table.beside_hole.Statement.{statement}
+use Rattle.entries.proofs.table.beside_hole.Tie as tie
+
+add-result : tie.Need-add-result
+add-result c = search needs
+
+returns : tie.Need-returns
+returns c = rw (lt-ltb _ _ (c .if1 .taken))
+
+returns-2 : tie.Need-returns-2
+returns-2 c = rw (le-ltb _ _ (c .if1 .left))
+
+pub beside-hole-spec : {M : Type 1} → statement M
+beside-hole-spec = tie.close (tie.spec add-result returns returns-2)

@@ -1,0 +1,214 @@
+// The words of an entry: records of fourteen words, the id's four, weight, base, size, cost, the validation cost's tag and value, created,
+// last checked, height key, number of inputs. Only this module knows the layout.
+use words::ids::Id;
+use words::ids::load_id;
+use words::ids::put_id;
+use words::ids::same_id;
+ghost use mathlib.Core.Path.{_≡_};
+ghost use mathlib.Core.List.{_∷_, []};
+ghost use Prim.Native.Nat.{ℕ, _+_, _≤_};
+ghost use lib.Dec.{eqb};
+ghost use lib.ListN.{length, set};
+ghost use Rattle.words.specs.Ids.{idOf, Four};
+ghost use Rattle.words.specs.Rows.{stored};
+ghost use Rattle.entries.specs.Layout.{entriesRoom, EntriesOk, entryOf, entryAt, entriesOf, Plain, wordOf, costOf, tagOf, valueOf, entryWords};
+
+pub enum ValidationCost {
+    Unmeasured,
+    Measured(u64),
+}
+
+pub struct PoolEntry {
+    pub id: Id,
+    pub weight: u64,
+    pub base: u64,
+    pub size: u64,
+    pub cost: u64,
+    pub validation_cost: ValidationCost,
+    pub created: u64,
+    pub last_checked: u64,
+    pub height_key: u64,
+    pub inputs: u64,
+}
+
+// How many entries the words have room for.
+pub fn entries_room(s: &[u64]) -> usize
+    ensures { λ r. ⌜ r ≡ entriesRoom (now (s .entry)) ⌝ }
+{
+    s.len() / 14
+}
+
+// ---- what is read
+
+// A word of the record at rank i: one that is a field by itself.
+fn word_at(s: &[u64], i: usize, j: usize) -> u64
+    requires { ⌜ EntriesOk (now s) (i + 1) ⌝ }
+    requires { ⌜ Plain j ⌝ }
+    ensures { λ r. ⌜ r ≡ wordOf (entryAt (now (s .entry)) i) j ⌝ }
+{
+    s[i * 14 + j]
+}
+
+pub fn id_at(s: &[u64], i: usize) -> Id
+    requires { ⌜ EntriesOk (now s) (i + 1) ⌝ }
+    ensures { λ r. ⌜ idOf r ≡ entryAt (now (s .entry)) i .id ⌝ }
+{
+    load_id(s, i * 14)
+}
+
+// Whether the entry at rank i has this id. The last word is looked at first: ids differ there most.
+pub fn is_at(s: &[u64], i: usize, id: Id) -> bool
+    requires { ⌜ EntriesOk (now s) (i + 1) ⌝ }
+    ensures { λ r. ⌜ r ≡ eqb (entryAt (now (s .entry)) i .id) (idOf id) ⌝ }
+{
+    if s[i * 14 + 3] != id.d {
+        return false;
+    }
+    same_id(id_at(s, i), id)
+}
+
+pub fn weight_at(s: &[u64], i: usize) -> u64
+    requires { ⌜ EntriesOk (now s) (i + 1) ⌝ }
+    ensures { λ r. ⌜ r ≡ entryAt (now (s .entry)) i .weight ⌝ }
+{
+    word_at(s, i, 4)
+}
+
+pub fn base_at(s: &[u64], i: usize) -> u64
+    requires { ⌜ EntriesOk (now s) (i + 1) ⌝ }
+    ensures { λ r. ⌜ r ≡ entryAt (now (s .entry)) i .base ⌝ }
+{
+    word_at(s, i, 5)
+}
+
+fn cost_of(tag: u64, value: u64) -> ValidationCost
+    ensures { λ r. ⌜ r ≡ costOf tag value ⌝ }
+{
+    if tag == 0 {
+        ValidationCost::Unmeasured
+    } else {
+        ValidationCost::Measured(value)
+    }
+}
+
+pub fn validation_cost_at(s: &[u64], i: usize) -> ValidationCost
+    requires { ⌜ EntriesOk (now s) (i + 1) ⌝ }
+    ensures { λ r. ⌜ r ≡ entryAt (now (s .entry)) i .validationCost ⌝ }
+{
+    let at = i * 14;
+    cost_of(s[at + 8], s[at + 9])
+}
+
+pub fn created_at(s: &[u64], i: usize) -> u64
+    requires { ⌜ EntriesOk (now s) (i + 1) ⌝ }
+    ensures { λ r. ⌜ r ≡ entryAt (now (s .entry)) i .created ⌝ }
+{
+    word_at(s, i, 10)
+}
+
+pub fn last_checked_at(s: &[u64], i: usize) -> u64
+    requires { ⌜ EntriesOk (now s) (i + 1) ⌝ }
+    ensures { λ r. ⌜ r ≡ entryAt (now (s .entry)) i .lastChecked ⌝ }
+{
+    word_at(s, i, 11)
+}
+
+pub fn height_key_at(s: &[u64], i: usize) -> u64
+    requires { ⌜ EntriesOk (now s) (i + 1) ⌝ }
+    ensures { λ r. ⌜ r ≡ entryAt (now (s .entry)) i .heightKey ⌝ }
+{
+    word_at(s, i, 12)
+}
+
+pub fn inputs_at(s: &[u64], i: usize) -> u64
+    requires { ⌜ EntriesOk (now s) (i + 1) ⌝ }
+    ensures { λ r. ⌜ r ≡ entryAt (now (s .entry)) i .inputs ⌝ }
+{
+    word_at(s, i, 13)
+}
+
+pub fn entry_at(s: &[u64], i: usize) -> PoolEntry
+    requires { ⌜ EntriesOk (now s) (i + 1) ⌝ }
+    ensures { λ r. ⌜ entryOf r ≡ entryAt (now (s .entry)) i ⌝ }
+{
+    PoolEntry {
+        id: id_at(s, i),
+        weight: weight_at(s, i),
+        base: base_at(s, i),
+        size: word_at(s, i, 6),
+        cost: word_at(s, i, 7),
+        validation_cost: validation_cost_at(s, i),
+        created: created_at(s, i),
+        last_checked: last_checked_at(s, i),
+        height_key: height_key_at(s, i),
+        inputs: inputs_at(s, i),
+    }
+}
+
+// ---- what is written
+
+fn tag_of(c: ValidationCost) -> u64
+    ensures { λ r. ⌜ r ≡ tagOf c ⌝ }
+{
+    match c {
+        ValidationCost::Unmeasured => 0,
+        ValidationCost::Measured(_) => 1,
+    }
+}
+
+fn value_of(c: ValidationCost) -> u64
+    ensures { λ r. ⌜ r ≡ valueOf c ⌝ }
+{
+    match c {
+        ValidationCost::Unmeasured => 0,
+        ValidationCost::Measured(v) => v,
+    }
+}
+
+fn put_four(s: &mut [u64], p: usize, a: u64, b: u64, c: u64, d: u64)
+    requires { ⌜ Four p (length (now s)) ⌝ }
+    ensures { λ _. ⌜ now (s .exit) ≡ stored (now (s .entry)) p (a ∷ b ∷ c ∷ d ∷ []) ⌝ }
+{
+    s[p] = a;
+    s[p + 1] = b;
+    s[p + 2] = c;
+    s[p + 3] = d;
+}
+
+fn put_row(s: &mut [u64], p: usize, e: PoolEntry)
+    requires { ⌜ p + 14 ≤ length (now s) ⌝ }
+    ensures { λ _. ⌜ now (s .exit) ≡ stored (now (s .entry)) p (entryWords e) ⌝ }
+{
+    let id = e.id;
+    let c = e.validation_cost;
+    let tag = tag_of(c);
+    let value = value_of(c);
+    put_id(s, p, id);
+    put_four(s, p + 4, e.weight, e.base, e.size, e.cost);
+    put_four(s, p + 8, tag, value, e.created, e.last_checked);
+    s[p + 12] = e.height_key;
+    s[p + 13] = e.inputs;
+}
+
+// Writes the entry at rank i.
+pub fn store_entry(s: &mut [u64], i: usize, e: PoolEntry)
+    requires { ⌜ EntriesOk (now s) (i + 1) ⌝ }
+    ensures { λ _. ⌜ ((m : ℕ) → entriesOf (now (s .exit)) m ≡ set (entriesOf (now (s .entry)) m) i (entryOf e)) ⌝ }
+{
+    put_row(s, i * 14, e);
+}
+
+// The entry at `from`, written at `to` too.
+pub fn move_entry(s: &mut [u64], from: usize, to: usize)
+    requires { ⌜ EntriesOk (now s) (from + 1) ⌝ }
+    requires { ⌜ EntriesOk (now s) (to + 1) ⌝ }
+    ensures { λ _. ⌜ ((m : ℕ) → entriesOf (now (s .exit)) m ≡ set (entriesOf (now (s .entry)) m) to (entryAt (now (s .entry)) from)) ⌝ }
+{
+    let a = from * 14;
+    let b = to * 14;
+    let mut j = 0;
+    while j < 14 {
+        s[b + j] = s[a + j];
+        j += 1;
+    }
+}
