@@ -1,5 +1,6 @@
 -- Numbers of two words of 64 bits.
 use Prim.Native.Nat.{ℕ, _+_, _*_, _^_, _≤_, _<_}
+use mathlib.Core.Path.{_≡_, refl}
 use native.Mathlib.Nat.{lt-of-le-of-lt, lt-of-mul-lt-mul-right, le-of-mul-le-mul-right, add-le-add-iff-right}
 use native.Mathlib.Omega.{arith}
 use lib.Pow.{pow-pos}
@@ -9,6 +10,10 @@ use Rattle.words.specs.declared.wide.Wide.{Wide}
 -- the number of two words
 unfoldable pub wideOf : Wide → ℕ
 wideOf w = w .high * 2 ^ 64 + w .low
+
+pub wide-none : wideOf (record { high = 0; low = 0 }) ≡ 0
+unfolding wideOf
+wide-none = refl
 
 -- ---- a sum of n words from 0: at most n times the greatest word, so that its high word stays below n. Of 4,096 weights it is never full.
 

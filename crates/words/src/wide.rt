@@ -1,36 +1,42 @@
 // Numbers of two words: the exact product of a word and half a word, a sum of words with its carry, and the quotient of two words by one.
 ghost use mathlib.Core.Path.{_≡_};
-ghost use Prim.Native.Nat.{_+_, _*_, _/_, _%_, _^_, _<_};
+ghost use Prim.Native.Nat.{_+_, _*_, _/_, _%_, _^_, _<_, min};
 ghost use Rattle.words.specs.Sums.{quotientOf};
 ghost use Rattle.words.specs.Wide.{wideOf};
-ghost use Rattle.words.specs.Divide.{Length, Within, Ready, digitBits, stepped};
+ghost use Rattle.words.specs.Divide.{Length, Serves, Ready, stepped};
+
+// Half a word has 32 bits.
+const HALF: u64 = 0x1_0000_0000;
+
+// The highest bit of a word.
+const TOP: u64 = 0x8000_0000_0000_0000;
 
 pub struct Wide {
     pub high: u64,
     pub low: u64,
 }
 
-// x × y. The low halves are added modulo 2^64: the sum wrapped exactly if it is below what was added.
+// x × y, by the halves of x. The low words are added modulo 2^64: the sum wrapped exactly if it is below what was added.
 pub fn product(x: u64, y: u32) -> Wide
     ensures { λ r. ⌜ wideOf r ≡ x * y ⌝ }
 {
     let by = y as u64;
-    let upper = x / 0x1_0000_0000 * by;
-    let lower = x % 0x1_0000_0000 * by;
-    let low = std::num::wrapping_add_u64(upper % 0x1_0000_0000 * 0x1_0000_0000, lower);
+    let upper = x / HALF * by;
+    let lower = x % HALF * by;
+    let low = std::num::wrapping_add_u64(upper % HALF * HALF, lower);
     if low < lower {
         return Wide {
-            high: upper / 0x1_0000_0000 + 1,
+            high: upper / HALF + 1,
             low,
         };
     }
     Wide {
-        high: upper / 0x1_0000_0000,
+        high: upper / HALF,
         low,
     }
 }
 
-// w + x, for a sum of words that is far from full.
+// w + x, with room for the carry: the high word of a sum of n words is below n.
 pub fn add_word(w: Wide, x: u64) -> Wide
     requires { ⌜ w .high + 1 < 2 ^ 64 ⌝ }
     ensures { λ r. ⌜ wideOf r ≡ wideOf w + x ⌝ }
@@ -47,13 +53,19 @@ pub fn add_word(w: Wide, x: u64) -> Wide
 
 // ---- the quotient of two words by one
 
-// What a division has come to: the quotient of the digits so far, and what is left of them.
+// What a division has come to: the quotient of the bits so far, and what is left of them.
 struct Part {
     quotient: u64,
     rest: u64,
 }
 
-// The bits of w up to its highest one bit.
+fn smaller(a: u32, b: u32) -> u32
+    ensures { λ r. ⌜ r ≡ min a b ⌝ }
+{
+    if a < b { a } else { b }
+}
+
+// How many bits w has up to its highest one bit.
 fn bits(w: Wide) -> u32
     ensures { λ r. ⌜ Length (wideOf w) r ⌝ }
 {
@@ -63,33 +75,41 @@ fn bits(w: Wide) -> u32
     64 - u64::leading_zeros(w.low)
 }
 
-// The bits of a digit: what is left is below the divisor, and a digit behind it still fits a word. For a larger divisor it is one bit.
-fn digit_bits(d: u64) -> u32
-    ensures { λ r. ⌜ r ≡ digitBits d ⌝ }
+// How many bits a step may take: what is left is below d, and with so many bits behind it, it still fits a word.
+fn step_bits(d: u64) -> u32
+    requires { ⌜ 0 < d ⌝ }
+    ensures { λ r. ⌜ Serves d r ⌝ }
 {
-    if d < 0x1_0000_0000 { 32 } else { 1 }
-}
-
-// The digit of `size` bits from bit `at`.
-fn digit(w: Wide, at: u32, size: u32) -> u64
-    requires { ⌜ Within at size ⌝ }
-    ensures { λ r. ⌜ r ≡ wideOf w / 2 ^ at % 2 ^ size ⌝ }
-{
-    if at < 64 {
-        return (w.low >> at) % (1u64 << size);
+    if d < TOP {
+        return u64::leading_zeros(d);
     }
-    (w.high >> (at - 64)) % (1u64 << size)
+    1
 }
 
-// One digit more. For a bit, twice what is left and the bit reach d exactly if what is left and the bit reach the gap.
-fn step(t: Part, digit: u64, d: u64) -> Part
-    requires { ⌜ Ready t digit d ⌝ }
-    ensures { λ r. ⌜ r ≡ stepped t digit d ⌝ }
+// The 64 bits of w from bit `at` up.
+fn word_at(w: Wide, at: u32) -> u64
+    requires { ⌜ at < 128 ⌝ }
+    ensures { λ r. ⌜ r ≡ wideOf w / 2 ^ at % 2 ^ 64 ⌝ }
 {
-    if d < 0x1_0000_0000 {
-        let n = t.rest * 0x1_0000_0000 + digit;
+    if at == 0 {
+        return w.low;
+    }
+    if at < 64 {
+        return (w.high << (64 - at)) + (w.low >> at);
+    }
+    w.high >> (at - 64)
+}
+
+// Divides what is left with `size` bits more behind it. For a divisor of 64 bits that is one bit, and twice what is left and the bit reach
+// d exactly if what is left and the bit reach the gap.
+fn step(t: Part, digit: u64, d: u64, size: u32) -> Part
+    requires { ⌜ Ready t digit d size ⌝ }
+    ensures { λ r. ⌜ r ≡ stepped t digit d size ⌝ }
+{
+    if d < TOP {
+        let n = (t.rest << size) + digit;
         return Part {
-            quotient: t.quotient * 0x1_0000_0000 + n / d,
+            quotient: (t.quotient << size) + n / d,
             rest: n % d,
         };
     }
@@ -107,21 +127,21 @@ fn step(t: Part, digit: u64, d: u64) -> Part
     }
 }
 
-// The division starts at the highest one bit, whose place gives the number of steps.
+// The division starts at the highest one bit: the leading zeros of the high or the low word fix the number of steps.
 fn divide(w: Wide, d: u64) -> u64
     requires { ⌜ w .high < d ⌝ }
     ensures { λ r. ⌜ r ≡ wideOf w / d ⌝ }
 {
-    let size = digit_bits(d);
-    let mut left = (bits(w) + size - 1) / size;
+    let most = step_bits(d);
+    let mut at = bits(w);
     let mut t = Part {
         quotient: 0,
         rest: 0,
     };
-    while 0 < left {
-        left -= 1;
-        let g = digit(w, left * size, size);
-        t = step(t, g, d);
+    while 0 < at {
+        let size = smaller(at, most);
+        at -= size;
+        t = step(t, word_at(w, at) % (1u64 << size), d, size);
     }
     t.quotient
 }

@@ -1,101 +1,97 @@
--- `wide::divide` meets its contract. The loop's invariant: with `left` digits left, the quotient and the rest are those of the number without
--- them (`partOf`); a turn is the law's step (`part-step`). The measure is the digits left. Assumes nothing.
+-- `wide::divide` meets its contract. The loop's invariant: the quotient and the rest are those of the number from bit `at` up (`partOf`); a turn is
+-- the law's step (`part-step`). The measure is `at`. Assumes nothing.
 use Prim.Native.Nat.{ℕ, _+_, _-_, _*_, _/_, _%_, _^_, _≤_, _<_}
 use mathlib.Core.Path.{_≡_, sym, ap, _∙_}
-use native.Mathlib.Nat.{add-mul, one-mul, zero-mul, lt-of-lt-of-le}
+use native.Mathlib.Nat.{one-mul}
 use native.Mathlib.Omega.{arith}
-use lib.Pow.{pow-mono}
+use lib.Dec.{lit<}
+use lib.Pow.{pow-pos, shl-exact, mod-mod-pow}
 use Rattle.words.specs.declared.wide.Part.{Part}
 use Rattle.words.specs.Wide.{wideOf}
-use Rattle.words.specs.Divide.{fits-word, Within, Ready, stepped, digitBits, bits-within, whole, digit-within, partOf, part-none, part-all, part-step, part-ready}
+use Rattle.words.specs.Divide.{fits-word, Serves, serves-less, Ready, stepped, partOf, part-none, part-all, part-step, part-ready}
 use Rattle.words.proofs.wide.divide.Statement.{statement}
 use Rattle.words.proofs.wide.divide.Tie as tie
 
 abbrev Inv-loop : tie.InvT-loop
-Inv-loop w d size left₀ t₀ left t = (left * size ≤ 128) × (t ≡ partOf (wideOf w) d (left * size))
+Inv-loop w d most at₀ t₀ at t = (at ≤ 128) × (t ≡ partOf (wideOf w) d at)
 
 abbrev μ-loop : tie.MeasureT-loop
-μ-loop w d size left₀ t₀ left t = left
+μ-loop w d most at₀ t₀ at t = at
 
--- a turn, with k digits of s bits left
-module _ (n d s k : ℕ) (t : Part) (size : s ≡ digitBits d) (more : 0 < k) (room : k * s ≤ 128) (inv : t ≡ partOf n d (k * s)) where
-  digits : k * s ≡ (k - 1) * s + s
-  digits =
-      let e : k ≡ k - 1 + 1 = omega arith in
-      ap (λ (x : ℕ). x * s) e ∙ add-mul (k - 1) 1 s ∙ ap (λ (x : ℕ). (k - 1) * s + x) (one-mul s)
+base : (s : ℕ) → s < 64 → 1 * 2 ^ s % 2 ^ 64 ≡ 2 ^ s
+base s h = shl-exact {a = 1} 1 s 64 (lit< tt) (omega arith) ∙ one-mul (2 ^ s)
 
-  turn-within : Within ((k - 1) * s) s
-  turn-within = rw size (digit-within (k - 1) d (rw (digits, size) at room))
+-- a turn from bit a, by s bits of the word x that ends where they end
+module _ (n d a s x : ℕ) (t : Part) (pos : 0 < d) (k : Serves d s) (le : s ≤ a) (is : x ≡ n / 2 ^ (a - s) % 2 ^ 64) (inv : t ≡ partOf n d a) where
+  from : t ≡ partOf n d (a - s + s)
+  from = let e : a ≡ a - s + s = omega arith in inv ∙ ap (partOf n d) e
 
-  module _ (g : ℕ) (pos : 0 < d) (is : g ≡ n / 2 ^ ((k - 1) * s) % 2 ^ s) where
-    turn-ready : n / d < 2 ^ 64 → Ready t g d
-    turn-ready full = rw (inv, is, digits, size) (part-ready n d ((k - 1) * digitBits d) pos full)
+  digit : x % (1 * 2 ^ s % 2 ^ 64) ≡ n / 2 ^ (a - s) % 2 ^ s
+  digit =
+      let e : 64 ≡ 64 - s + s = omega (arith, k .few) in
+      rw (base s (k .few), is) (ap (λ (y : ℕ). n / 2 ^ (a - s) % 2 ^ y % 2 ^ s) e ∙ mod-mod-pow (n / 2 ^ (a - s)) (64 - s) s)
 
-    turn-done : stepped t g d ≡ partOf n d ((k - 1) * s)
-    turn-done = rw (inv, is, digits, size) (part-step n d ((k - 1) * digitBits d) pos)
+  turn-ready : n / d < 2 ^ 64 → Ready t (x % (1 * 2 ^ s % 2 ^ 64)) d s
+  turn-ready full = rw (from, digit) (part-ready n d (a - s) s pos full k)
 
-none-left : (n d s k : ℕ) (t : Part) → k ≡ 0 → t ≡ partOf n d (k * s) → t .quotient ≡ n / d
-none-left n d s k t none inv = rw (inv, none, zero-mul s) (part-all n d)
+  turn-done : stepped t (x % (1 * 2 ^ s % 2 ^ 64)) d s ≡ partOf n d (a - s)
+  turn-done = rw (from, digit) (part-step n d (a - s) s pos)
 
-digit-bits-requires : tie.Need-digit-bits-requires Inv-loop μ-loop
-digit-bits-requires c κs = tt
+step-bits-requires : tie.Need-step-bits-requires Inv-loop μ-loop
+step-bits-requires c κs = omega arith
 
 bits-requires : tie.Need-bits-requires Inv-loop μ-loop
 bits-requires c κs = tt
 
-add-left : tie.Need-add-left Inv-loop μ-loop
-add-left c = omega (arith, bits-within (c .before .before .args .d))
-
-sub-left : tie.Need-sub-left Inv-loop μ-loop
-sub-left c = omega (arith, bits-within (c .before .before .args .d))
-
-div-left : tie.Need-div-left Inv-loop μ-loop
-div-left c = omega (arith, bits-within (c .before .before .args .d))
-
 loop-holds : tie.Need-loop-holds Inv-loop μ-loop
-loop-holds c =
-    let d = c .before .before .args .d in
-    let k = whole (c .bits .result) d (c .bits .ensures .room) in
-    rw (c .before .digit-bits .ensures)
-    (k .1, sym (part-none (wideOf (c .before .before .args .w)) d _ (lt-of-lt-of-le (c .bits .ensures .below) (pow-mono (k .0)))))
+loop-holds c = (c .bits .ensures .room, sym (part-none (wideOf (c .before .before .args .w)) (c .before .before .args .d) (c .bits .result) (c .bits .ensures .below)))
 
-sub-left-2 : tie.Need-sub-left-2 Inv-loop μ-loop
-sub-left-2 c = omega arith
+smaller-requires : tie.Need-smaller-requires Inv-loop μ-loop
+smaller-requires c κs = tt
 
-within : (c : tie.In-loop Inv-loop μ-loop) → Within ((c .before .loop .left - 1) * c .before .before .before .digit-bits .result) (c .before .before .before .digit-bits .result)
-within c =
-    let s = c .before .before .before in
-    let l = c .before .loop in
-    turn-within (wideOf (s .before .args .w)) (s .before .args .d) (s .digit-bits .result) (l .left) (l .t) (s .digit-bits .ensures) (omega arith) (l .inv .0) (l .inv .1)
+sub-at : tie.Need-sub-at Inv-loop μ-loop
+sub-at c = omega arith
 
-mul-digit : tie.Need-mul-digit Inv-loop μ-loop
-mul-digit c = omega (arith, within c)
+word-at-requires : tie.Need-word-at-requires Inv-loop μ-loop
+word-at-requires c κs = omega arith
 
-digit-requires : tie.Need-digit-requires Inv-loop μ-loop
-digit-requires c κs = within c
+serves : (c : tie.After-smaller Inv-loop μ-loop) → Serves (c .before .before .before .before .before .args .d) (c .smaller .result)
+serves c = serves-less (c .before .before .before .before .step-bits .ensures) (omega arith) (omega arith)
+
+cast-step : tie.Need-cast-step Inv-loop μ-loop
+cast-step c = omega (arith, serves (c .before) .few)
+
+shl-step : tie.Need-shl-step Inv-loop μ-loop
+shl-step c = serves (c .before) .few
+
+rem-step : tie.Need-rem-step Inv-loop μ-loop
+rem-step c = rw (base (c .before .smaller .result) (serves (c .before) .few)) (pow-pos (c .before .smaller .result))
 
 step-requires : tie.Need-step-requires Inv-loop μ-loop
 step-requires c κs =
-    let s = c .before .before .before .before in
-    let l = c .before .before .loop in
-    turn-ready (wideOf (s .before .args .w)) (s .before .args .d) (s .digit-bits .result) (l .left) (l .t) (s .digit-bits .ensures) (omega arith) (l .inv .0) (l .inv .1)
-    _ (omega arith) (c .digit .ensures) (fits-word (s .before .args .w) (s .before .pre) (omega arith))
+    let a = c .before .before .before .before .before .before in
+    let l = c .before .before .before .loop in
+    turn-ready (wideOf (a .args .w)) (a .args .d) (l .at) (c .before .smaller .result) (c .word-at .result) (l .t) (omega arith) (serves (c .before)) (omega arith) (c .word-at .ensures) (l .inv .1)
+    (fits-word (a .args .w) (a .pre) (omega arith))
 
 loop-less : tie.Need-loop-less Inv-loop μ-loop
 loop-less c = omega arith
 
 loop-again : tie.Need-loop-again Inv-loop μ-loop
 loop-again c =
-    let s = c .before .before .before .before .before in
-    let l = c .before .before .before .loop in (
-      omega (arith, within (c .before .before)),
+    let a = c .before .before .before .before .before .before .before .args in
+    let l = c .before .before .before .before .loop in (
+      omega arith,
       c .step .ensures
-          ∙ turn-done (wideOf (s .before .args .w)) (s .before .args .d) (s .digit-bits .result) (l .left) (l .t) (s .digit-bits .ensures) (omega arith) (l .inv .0) (l .inv .1)
-          _ (omega arith) (c .before .digit .ensures),
+          ∙ turn-done (wideOf (a .w)) (a .d) (l .at) (c .before .before .smaller .result) (c .before .word-at .result) (l .t) (omega arith) (serves (c .before .before)) (omega arith) (c .before .word-at .ensures) (l .inv .1),
     )
 
 returns : tie.Need-returns Inv-loop μ-loop
-returns c = let a = c .before .before .before .before .args in let l = c .before .loop in none-left (wideOf (a .w)) (a .d) _ (l .left) (l .t) (omega arith) (l .inv .1)
+returns c =
+    let a = c .before .before .before .before .args in
+    let l = c .before .loop in
+    let e : l .at ≡ 0 = omega arith in
+    ap (λ (t : Part). t .quotient) (l .inv .1 ∙ ap (partOf (wideOf (a .w)) (a .d)) e) ∙ part-all (wideOf (a .w)) (a .d)
 
 pub divide-spec : {M : Type 1} → statement M
 divide-spec =
@@ -103,15 +99,15 @@ divide-spec =
     (tie.spec
     Inv-loop
     μ-loop
-    digit-bits-requires
+    step-bits-requires
     bits-requires
-    add-left
-    sub-left
-    div-left
     loop-holds
-    sub-left-2
-    mul-digit
-    digit-requires
+    smaller-requires
+    sub-at
+    word-at-requires
+    cast-step
+    shl-step
+    rem-step
     step-requires
     loop-less
     loop-again
