@@ -1,5 +1,6 @@
 -- What each case of an outcome says in document 01's terms: a refusal's number, or the outcome with its values.
 use Prim.Native.Nat.{ℕ}
+use mathlib.Core.Bool.{Bool, true, false}
 use mathlib.Core.Path.{_≡_, refl}
 use Rattle.words.specs.Ids.{idOf}
 use Rattle.types.specs.declared.StartOutcome.{StartOutcome}
@@ -20,6 +21,10 @@ use Rattle.types.specs.declared.AnswerOutcome.{AnswerOutcome}
 use Rattle.types.specs.declared.AnswerOutcome.the-variants.{InputMissing, AnswerNeeded, FoundInvalid, FoundValid, NotAnswered}
 use Rattle.types.specs.declared.ListOutcome.{ListOutcome}
 use Rattle.types.specs.declared.ListOutcome.the-variants.{Listed, NotListed}
+use Rattle.types.specs.declared.TestOutcome.{TestOutcome}
+use Rattle.types.specs.declared.TestOutcome.the-variants.{Yes, No, NotTested}
+use Rattle.types.specs.declared.EntryOutcome.{EntryOutcome}
+use Rattle.types.specs.declared.EntryOutcome.the-variants.{Entry, NoEntry, NotLooked}
 use Rattle.types.specs.declared.NumberOutcome.{NumberOutcome}
 use Rattle.types.specs.declared.NumberOutcome.the-variants.{Number, NoNumber}
 
@@ -42,9 +47,14 @@ pub data Outcome : Type 0 where
   valid : ℕ → Outcome
   -- a query's number
   number : ℕ → Outcome
+  -- a query's yes or no
+  said : Bool → Outcome
+  -- a query's transaction: its id, weight and base; or that there is none
+  entry : ℕ → ℕ → ℕ → Outcome
+  none : Outcome
 
 unfoldable pub startOf : StartOutcome → Outcome
-startOf Ready = done
+startOf (Ready st) = done
 startOf (NotStarted n) = refused n 0
 
 unfoldable pub processedOf : ProcessingOutcome → Outcome
@@ -89,3 +99,13 @@ listedOf (NotListed n) = refused n 0
 unfoldable pub numberOf : NumberOutcome → Outcome
 numberOf (Number n) = number n
 numberOf (NoNumber n) = refused n 0
+
+unfoldable pub testedOf : TestOutcome → Outcome
+testedOf Yes = said true
+testedOf No = said false
+testedOf (NotTested n) = refused n 0
+
+unfoldable pub lookedOf : EntryOutcome → Outcome
+lookedOf (Entry x w b) = entry (idOf x) w b
+lookedOf NoEntry = none
+lookedOf (NotLooked n) = refused n 0

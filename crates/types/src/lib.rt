@@ -78,7 +78,8 @@ pub struct Submission {
 // ---- outcomes. A refusal carries document 01's number; `specs/Outcomes.antt` gives number and values of every case.
 
 pub enum StartOutcome {
-    Ready,
+    // the state of an empty pool
+    Ready(Mempool),
     NotStarted(u64),
 }
 
@@ -131,6 +132,20 @@ pub enum AnswerOutcome {
 pub enum ListOutcome {
     Listed(usize),
     NotListed(u64),
+}
+
+// A query for a yes or a no.
+pub enum TestOutcome {
+    Yes,
+    No,
+    NotTested(u64),
+}
+
+// A query for a pooled transaction: its id, weight and base.
+pub enum EntryOutcome {
+    Entry(Id, u64, u64),
+    NoEntry,
+    NotLooked(u64),
 }
 
 // A query for one number.
