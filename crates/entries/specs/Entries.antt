@@ -1,4 +1,5 @@
--- The ordered pool's entries: the pooled transactions in priority order, weight falling, then id rising (document 01, "The ordered pool").
+-- The ordered pool's entries (document 01, "The ordered pool"): the pooled transactions in priority order, which is that of the Rust's `TxWeight`:
+-- weight falling, then id rising.
 use Prim.Native.Nat.{ℕ, _+_}
 use mathlib.Core.Path.{_≡_, refl}
 use mathlib.Core.Bool.{Bool, true, false}
@@ -28,14 +29,24 @@ pub record Entry : Type 0 where
   -- repeats counted
   pub inputs : ℕ
 
+-- what the order reads of an entry
+abbrev pub weightOf : Entry → ℕ
+weightOf e = e .weight
+
+abbrev pub keyOf : Entry → ℕ
+keyOf e = e .id
+
 -- the first is heavier, or as heavy with a smaller id
 unfoldable pub ahead : ℕ → ℕ → ℕ → ℕ → Bool
 ahead w k w' k' = pick (eqb w w') (ltb k k') (ltb w' w)
 
--- an entry put where the order has it: behind those at the front that are ahead of it
+-- a row put where the order has it: behind those at the front that are ahead of it. What is read of a row is its weight and its id
+abbrev pub insertOn : {A : Type 0} → (A → ℕ) → (A → ℕ) → A → List A → List A
+insertOn w k e [] = e ∷ []
+insertOn w k e (x ∷ xs) = pick (ahead (w x) (k x) (w e) (k e)) (x ∷ insertOn w k e xs) (e ∷ x ∷ xs)
+
 abbrev pub insertBy : Entry → List Entry → List Entry
-insertBy e [] = e ∷ []
-insertBy e (x ∷ xs) = pick (ahead (x .weight) (x .id) (e .weight) (e .id)) (x ∷ insertBy e xs) (e ∷ x ∷ xs)
+insertBy e es = insertOn weightOf keyOf e es
 
 -- whether an id is pooled
 abbrev pub pooled : ℕ → List Entry → Bool

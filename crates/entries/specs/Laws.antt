@@ -1,10 +1,10 @@
 -- What the loops over the entries go by, on lists alone: the search for an id, the rank of a weight and an id beside a hole, and what a
 -- place found says of the list.
-use Prim.Native.Nat.{ℕ, zero, suc, _+_, _≤_, _<_, suc-le-suc}
+use Prim.Native.Nat.{ℕ, zero, suc, _+_, _-_, _≤_, _<_, suc-le-suc}
 use mathlib.Core.Path.{_≡_, refl, sym, ap, _∙_}
 use mathlib.Core.Bool.{Bool, true, false}
-use mathlib.Core.List.{List, [], _∷_}
-use native.Mathlib.Nat.{not-suc-le-zero, le-of-suc-le-suc, suc-inj}
+use mathlib.Core.List.{List, [], _∷_, _++_}
+use native.Mathlib.Nat.{not-suc-le-zero, le-of-suc-le-suc}
 use native.Mathlib.Decide.{decLt}
 use native.Mathlib.Numerals.{add-one}
 use native.Mathlib.Omega.{arith}
@@ -13,12 +13,11 @@ use lib.Seq.{drop-cons}
 use lib.Dec.{eqb, ltb}
 use borrow.Author.Tests.{lt-ltb, le-ltb}
 use Rattle.words.specs.Lists.{pick, removeAt, insertAt}
-use Rattle.words.specs.Find.{found, without}
-use Rattle.words.specs.Tables.{drop-of, drop-past}
+use Rattle.words.specs.Find.{found, without, last, butLast, dropLast}
+use Rattle.words.specs.Tables.{drop-of, drop-past, of-suc}
 use Rattle.entries.specs.Entries.{Entry, ahead, insertBy, pooled, placeFrom, placeOf, raised, credit, stamp, stamped}
-use Rattle.entries.specs.Layout.{entryAt, entriesOf, entries}
+use Rattle.entries.specs.Layout.{entryAt, entriesOf, entries, Left}
 use Rattle.entries.specs.declared.fields.ValidationCost.{ValidationCost}
-use Rattle.entries.specs.declared.table.Place.{Place}
 use Rattle.entries.specs.declared.table.Place.the-variants.{At, Nowhere}
 
 -- ---- the search for an id
@@ -210,3 +209,42 @@ module _ (l : List ℕ) (n k i : ℕ) (p : placeOf k (entriesOf l n) ≡ At i) w
 
 pub credit-none : (c k : ℕ) (es : List Entry) → placeOf k es ≡ Nowhere → es ≡ credit c k es
 credit-none c k es p = let A = no-place k es p in rw (A .none, A .out)
+
+-- ---- for callers: the lowest entry, and counts
+
+module _ {A : Type 0} where
+  last-snoc : (d : A) (xs : List A) (x : A) → last d (xs ++ (x ∷ [])) ≡ x
+  last-snoc d [] x = refl
+  last-snoc d (y ∷ ys) x = last-snoc y ys x
+
+  but-snoc : (y : A) (xs : List A) (x : A) → butLast y (xs ++ (x ∷ [])) ≡ y ∷ xs
+  but-snoc y [] x = refl
+  but-snoc y (z ∷ zs) x = ap (λ (r : List A). y ∷ r) (but-snoc z zs x)
+
+  drop-snoc : (xs : List A) (x : A) → dropLast (xs ++ (x ∷ [])) ≡ xs
+  drop-snoc [] x = refl
+  drop-snoc (y ∷ ys) x = but-snoc y ys x
+
+module _ (l : List ℕ) (n : ℕ) (h : 0 < n) where
+  upto : entriesOf l n ≡ entriesOf l (n - 1) ++ (entryAt l (n - 1) ∷ [])
+  upto = let e : n ≡ n - 1 + 1 = omega arith in ap (entriesOf l) e ∙ of-suc entries l (n - 1)
+
+  -- the entry at rank n − 1 is the lowest, and n − 1 entries are all but that
+  pub lowest : (d : Entry) → last d (entriesOf l n) ≡ entryAt l (n - 1)
+  lowest d = rw upto (last-snoc d (entriesOf l (n - 1)) (entryAt l (n - 1)))
+
+  pub but-lowest : entriesOf l (n - 1) ≡ dropLast (entriesOf l n)
+  but-lowest = rw upto (sym (drop-snoc (entriesOf l (n - 1)) (entryAt l (n - 1))))
+
+-- a count is the length of the list
+pub left-count : (l m : List ℕ) (n : ℕ) (es : List Entry) → Left l m n es → n ≡ length es
+left-count l m n es r = sym (entries .len m n) ∙ ap length (r .rows)
+
+-- one fewer is left where the id was pooled
+pub length-without : (k : ℕ) (es : List Entry) → length (without (λ e. e .id) k es) + pick (pooled k es) 1 0 ≡ length es
+length-without k [] = refl
+length-without k (e ∷ es) = go (eqb (e .id) k) (length-without k es)
+  where
+    go : (t : Bool) → length (without (λ e. e .id) k es) + pick (pooled k es) 1 0 ≡ length es → length (pick t es (e ∷ without (λ e. e .id) k es)) + pick (pick t true (pooled k es)) 1 0 ≡ suc (length es)
+    go true ih = omega arith
+    go false ih = omega arith

@@ -1,6 +1,6 @@
 -- The table of entries in words: what it is as a list (`entriesOf`), what its words must be (`EntriesOk`), and the laws of both. Nothing
 -- outside the proofs of module `fields` unfolds a definition under "the layout".
-use Prim.Native.Nat.{ℕ, zero, suc, _+_, _*_, _/_, _≤_, _<_}
+use Prim.Native.Nat.{ℕ, _+_, _*_, _/_, _≤_, _<_}
 use mathlib.Core.Path.{_≡_, refl, sym, ap, _∙_}
 use mathlib.Core.Logic.{_≢_}
 use mathlib.Core.Bool.{Bool, true, false}
@@ -8,9 +8,9 @@ use mathlib.Core.List.{List, [], _∷_, _++_}
 use native.Mathlib.Nat.{add-zero, add-assoc}
 use native.Mathlib.Numerals.{add-one}
 use native.Mathlib.Omega.{arith}
-use lib.ListN.{length, getD, take, drop, set, length-take, length-drop}
+use lib.ListN.{length, getD, take, drop, set, replicate, length-take, length-drop}
 use lib.Seq.{getD-set-other, getD-drop, take-suc}
-use lib.Dec.{eqb, ltb}
+use lib.Dec.{eqb}
 use borrow.Author.Tests.{eqb-true, eqb-false, ne-eqb}
 use Rattle.words.specs.Lists.{pick}
 use Rattle.words.specs.Rows.{stored, stored-append, blk, blk-word, blk-lit, recAt, recs, length-recs, getD-recs, take-recs, recs-store}
@@ -85,6 +85,18 @@ entriesRoom l = length l / 14
 
 unfoldable pub EntriesOk : List ℕ → ℕ → Type 0
 EntriesOk l n = n * 14 ≤ length l
+
+-- on the edges: a record's words, measured and not; room for whole records only
+abbrev row : ℕ → List ℕ
+row tag = 0 ∷ 0 ∷ 0 ∷ 7 ∷ 20 ∷ 10 ∷ 300 ∷ 500 ∷ tag ∷ 400 ∷ 3 ∷ 4 ∷ 2147483698 ∷ 2 ∷ []
+
+fields : (entryAt (row 1) 0 .weight ≡ 20) × (entryAt (row 1) 0 .base ≡ 10) × (entryAt (row 1) 0 .validationCost ≡ Measured 400) × (entryAt (row 0) 0 .validationCost ≡ Unmeasured) × (entryAt (row 0 ++ row 1) 1 .inputs ≡ 2)
+unfolding entryAt recAt entryDec
+fields = (refl, refl, refl, refl, refl)
+
+rooms : (entriesRoom (replicate 13 0) ≡ 0) × (entriesRoom (replicate 28 0) ≡ 2) × (entriesRoom (replicate 41 0) ≡ 2)
+unfolding entriesRoom
+rooms = (refl, refl, refl)
 
 -- a word that is a field by itself, and that field of an entry
 abbrev pub Plain : ℕ → Type 0

@@ -38,9 +38,9 @@ pub fn entries_room(s: &[u64]) -> usize
     s.len() / 14
 }
 
-// ---- what is read
+// ---- what is read: the fields of the entry at rank i
 
-// A word of the record at rank i: one that is a field by itself.
+// A word of its record that is a field by itself.
 fn word_at(s: &[u64], i: usize, j: usize) -> u64
     requires { ⌜ EntriesOk (now s) (i + 1) ⌝ }
     requires { ⌜ Plain j ⌝ }

@@ -12,8 +12,7 @@ use words::ids::Id;
 use words::ids::less_id;
 use words::sums::saturating_add;
 ghost use mathlib.Core.Path.{_≡_};
-ghost use Prim.Native.Nat.{ℕ, _+_, _-_, _≤_, _<_};
-ghost use lib.ListN.{length, set};
+ghost use Prim.Native.Nat.{_+_, _≤_, _<_};
 ghost use Rattle.words.specs.Ids.{idOf};
 ghost use Rattle.words.specs.Lists.{removeAt};
 ghost use Rattle.words.specs.Find.{without};
@@ -200,8 +199,8 @@ pub fn stamp_entry(s: &mut [u64], n: usize, id: Id, cost: ValidationCost, time: 
 {
     match find_entry(s, n, id) {
         Place::At(i) => {
-            let e = entry_at(s, i);
-            store_entry(s, i, checked(e, cost, time));
+            let old = entry_at(s, i);
+            store_entry(s, i, checked(old, cost, time));
         }
         Place::Nowhere => {}
     }

@@ -3,7 +3,7 @@ use native.Mathlib.Omega.{arith}
 use Prim.Native.Nat.{_+_, _*_}
 use mathlib.Core.Path.{sym, ap, _∙_}
 use lib.Dec.{eqb}
-use Rattle.words.specs.Ids.{idOf, Words, wordsAt}
+use Rattle.words.specs.Ids.{idOf}
 use Rattle.entries.specs.Layout.{EntriesOk, last-differs}
 use borrow.Author.Needs.{needs}
 use Rattle.entries.proofs.fields.is_at.Statement.{statement}

@@ -5,7 +5,7 @@ use mathlib.Core.Path.{_≡_, refl, sym, _∙_}
 use lib.ListN.{drop}
 use Rattle.words.specs.Ids.{idOf}
 use Rattle.entries.specs.Entries.{placeFrom, placeOf}
-use Rattle.entries.specs.Layout.{entriesOf, ok-fewer, ok-bound}
+use Rattle.entries.specs.Layout.{entriesOf, ok-fewer}
 use Rattle.entries.specs.Laws.{find-hit, find-miss, find-end}
 use Rattle.entries.proofs.table.find_entry.Statement.{statement}
 use Rattle.entries.proofs.table.find_entry.Tie as tie

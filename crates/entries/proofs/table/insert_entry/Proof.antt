@@ -1,9 +1,8 @@
 -- `table::insert_entry` meets its contract: n + 1 entries with a hole at the end are n. Assumes nothing.
 use native.Mathlib.Omega.{arith}
-use mathlib.Core.Path.{refl, ap, _∙_}
+use mathlib.Core.Path.{refl}
 use Rattle.words.specs.Tables.{hole-end}
-use Rattle.entries.specs.Entries.{insertBy}
-use Rattle.entries.specs.Layout.{entryOf, entries, ok-bound}
+use Rattle.entries.specs.Layout.{entries, ok-bound}
 use borrow.Author.Needs.{needs}
 use Rattle.entries.proofs.table.insert_entry.Statement.{statement}
 use Rattle.entries.proofs.table.insert_entry.Tie as tie

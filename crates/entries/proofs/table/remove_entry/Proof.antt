@@ -1,9 +1,8 @@
 -- `table::remove_entry` meets its contract: the hole at the place found goes to the end. Assumes nothing.
 use native.Mathlib.Omega.{arith}
-use Prim.Native.Nat.{_-_}
-use mathlib.Core.Path.{_≡_, refl, sym, _∙_}
+use mathlib.Core.Path.{refl, sym, _∙_}
 use Rattle.words.specs.Tables.{hole-end}
-use Rattle.entries.specs.Layout.{entriesOf, entries, ok-still}
+use Rattle.entries.specs.Layout.{entries, ok-still}
 use Rattle.entries.specs.Laws.{place-fits, at-place, no-place}
 use borrow.Author.Needs.{needs}
 use Rattle.entries.proofs.table.remove_entry.Statement.{statement}

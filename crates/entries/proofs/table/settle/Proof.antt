@@ -1,6 +1,6 @@
 -- `table::settle` meets its contract: the hole goes to the entry's rank and is filled there. Assumes nothing.
 use native.Mathlib.Omega.{arith}
-use mathlib.Core.Path.{_≡_, _∙_}
+use mathlib.Core.Path.{_∙_}
 use Rattle.words.specs.Ids.{idOf}
 use Rattle.words.specs.Tables.{filled}
 use Rattle.entries.specs.Layout.{entryOf, entries, ok-still}
