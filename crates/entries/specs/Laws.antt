@@ -248,3 +248,7 @@ length-without k (e ∷ es) = go (eqb (e .id) k) (length-without k es)
     go : (t : Bool) → length (without (λ e. e .id) k es) + pick (pooled k es) 1 0 ≡ length es → length (pick t es (e ∷ without (λ e. e .id) k es)) + pick (pick t true (pooled k es)) 1 0 ≡ suc (length es)
     go true ih = omega arith
     go false ih = omega arith
+
+-- what a removal returned, with 1 where the id was pooled, is what there was
+pub removed-count : (l m : List ℕ) (n r k : ℕ) → Left l m r (without (λ e. e .id) k (entriesOf l n)) → r + pick (pooled k (entriesOf l n)) 1 0 ≡ n
+removed-count l m n r k h = omega (arith, left-count l m r _ h, length-without k (entriesOf l n), entries .len l n)
