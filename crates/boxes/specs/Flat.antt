@@ -1,9 +1,9 @@
 -- Lists that callers hand in as words: records of W words, of which each begins with an id, for any width of at least four. `idsTo W l n` is the
 -- list of the first n ids, and `idsOf W l` that of all whole records.
-use Prim.Native.Nat.{ℕ, zero, suc, _+_, _*_, _/_, _≤_, _<_}
-use mathlib.Core.Path.{_≡_, refl, sym, ap, _∙_}
-use mathlib.Core.Bool.{Bool, true, false, not, _||_}
-use mathlib.Core.List.{List, [], _∷_, _++_}
+use Prim.Native.Nat.{ℕ, _+_, _*_, _/_, _≤_, _<_}
+use mathlib.Core.Path.{_≡_, refl, sym, _∙_}
+use mathlib.Core.Bool.{true, false, _||_}
+use mathlib.Core.List.{List, [], _∷_}
 use native.Mathlib.Nat.{add-mul, mul-le-mul-right, div-mul-le-self, div-le-self, add-zero, one-mul}
 use native.Mathlib.Omega.{arith}
 use lib.Dec.{eqb}

@@ -7,8 +7,8 @@ use mathlib.Core.List.{List, [], _∷_, _++_, map, append-assoc, append-nil}
 use native.Mathlib.Omega.{arith}
 use lib.Dec.{eqb}
 use borrow.Author.Tests.{eq-eqb, eqb-true, eqb-false}
-use Rattle.words.specs.Lists.{pick, keep, other, count, Once, keep-append, keep-map, map-append, count-map-keep, once-last, absent-head, absent-tail}
-use Rattle.boxes.specs.Records.{BoxRec, Pair, same, hide, enterBox, enterBoxes, enterTx, dropOwner, index, isInput, inputsOf}
+use Rattle.words.specs.Lists.{pick, keep, other, count, Once, keep-map, map-append, count-map-keep, once-last, absent-head, absent-tail}
+use Rattle.boxes.specs.Records.{BoxRec, Pair, same, hide, enterBox, enterBoxes, enterTx, dropOwner, index, inputsOf}
 
 -- an element that may stand before a list or not
 pick-append : {A : Type 0} (t : Bool) (a : A) {x : List A} (y z : List A) → x ≡ y ++ z → pick t (a ∷ x) x ≡ pick t (a ∷ y) y ++ z
@@ -178,9 +178,12 @@ pub inputs-uses : (k : ℕ) (rs : List BoxRec) → inputsOf k rs ≡ inputsIn k 
 inputs-uses k [] = refl
 inputs-uses k (r ∷ rs) = rw (inputs-uses k rs)
 
-pub inputs-append : (k : ℕ) (a b : List Use) → inputsIn k (a ++ b) ≡ inputsIn k a ++ inputsIn k b
+inputs-append : (k : ℕ) (a b : List Use) → inputsIn k (a ++ b) ≡ inputsIn k a ++ inputsIn k b
 inputs-append k [] b = refl
 inputs-append k (u ∷ a) b = pick-append (eqb (u .owner) k && not (u .out)) (u .box) (inputsIn k a) (inputsIn k b) (inputs-append k a b)
+
+pub inputs-split : (k : ℕ) (a b : List BoxRec) → inputsOf k (a ++ b) ≡ inputsOf k a ++ inputsOf k b
+inputs-split k a b = rw (inputs-uses k (a ++ b), map-append useOf a b, inputs-append k (uses a) (uses b), inputs-uses k a, inputs-uses k b)
 
 inputs-in : (j k : ℕ) (t : Bool) → eqb k j ≡ t → (bs : List ℕ) → inputsIn j (map (the false k) bs) ≡ pick t bs []
 inputs-in j k true q [] = refl

@@ -1,6 +1,7 @@
 -- The table of box records in words: what it is as a list (`boxesOf`), how many it has room for (`boxesRoom`, `BoxesOk`), and the laws of both.
--- Words outside the first n records are free. Nothing but the proofs of module `rows`, which reads and writes words, unfolds a definition of this file.
-use Prim.Native.Nat.{ℕ, _+_, _-_, _*_, _/_, _≤_, _<_}
+-- Words outside the first n records are free. Nothing unfolds a definition of this file but the proofs of module `rows`, which reads and writes
+-- words, and of `enter_tx`, which lends the tail.
+use Prim.Native.Nat.{ℕ, _+_, _-_, _*_, _/_, _≤_}
 use mathlib.Core.Path.{_≡_, refl, sym, ap, _∙_}
 use mathlib.Core.Bool.{Bool, true, false, not}
 use mathlib.Core.List.{List, [], _∷_, _++_}
@@ -12,7 +13,7 @@ use lib.Dec.{eqb}
 use Rattle.words.specs.Lists.{pick}
 use Rattle.words.specs.Rows.{stored, stored-append, blk-lit, recAt, recs, length-recs, getD-recs, take-recs, recs-store, recs-append, recs-take, recs-front}
 use Rattle.words.specs.Tables.{Table}
-use Rattle.words.specs.Ids.{idOf, idAt, idWords, wordsAt}
+use Rattle.words.specs.Ids.{idOf, idAt, idWords}
 use Rattle.words.specs.declared.ids.Id.{Id}
 use Rattle.boxes.specs.Records.{BoxRec}
 use Rattle.boxes.specs.Among.{among}

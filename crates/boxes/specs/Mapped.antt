@@ -1,10 +1,10 @@
 -- A loop that changes the records of a table one after the other: of r records done, each is changed, and those not reached yet are as they were.
 use Prim.Native.Nat.{ℕ, _+_, _≤_, _<_}
-use mathlib.Core.Path.{_≡_, refl, sym, ap, _∙_}
-use mathlib.Core.List.{List, [], _∷_, _++_, map}
+use mathlib.Core.Path.{_≡_, refl, sym, _∙_}
+use mathlib.Core.List.{List, [], _∷_, map}
 use native.Mathlib.Decide.{decLt}
 use native.Mathlib.Omega.{arith}
-use lib.ListN.{length, getD, drop, set}
+use lib.ListN.{drop, set}
 use lib.Seq.{drop-set-lt, set-getD, set-out}
 use Rattle.words.specs.Lists.{map-append}
 use Rattle.words.specs.Tables.{Table, drop-of, of-suc, of-none, put-end}

@@ -1,8 +1,8 @@
 -- What the functions that change the records promise: the words before are l, those after are m.
 use Prim.Native.Nat.{ℕ, _+_, _≤_}
 use mathlib.Core.Path.{_≡_}
-use mathlib.Core.Bool.{Bool, true, false}
-use mathlib.Core.List.{List, [], _∷_, _++_}
+use mathlib.Core.Bool.{Bool}
+use mathlib.Core.List.{List, _++_}
 use lib.ListN.{length}
 use Rattle.boxes.specs.Records.{enterTx, dropOwner}
 use Rattle.boxes.specs.Entering.{newBoxes}

@@ -1,17 +1,30 @@
--- The writer's loop: the records that are written, and those of the boxes that are left, are together always the same.
+-- Entering a transaction in words: a record is hidden, the writer's loop, the lent tail.
 use Prim.Native.Nat.{ℕ, _+_, _*_, _≤_, _<_}
-use mathlib.Core.Path.{_≡_, refl, sym, ap, _∙_}
+use mathlib.Core.Path.{_≡_, sym, ap, _∙_}
 use mathlib.Core.Bool.{Bool, true, false}
-use mathlib.Core.List.{List, [], _∷_, _++_, map, append-assoc, append-nil}
+use mathlib.Core.List.{List, _++_, map, append-assoc, append-nil}
 use native.Mathlib.Nat.{add-zero, add-assoc}
 use native.Mathlib.Omega.{arith}
 use lib.ListN.{take, drop, set}
 use Rattle.words.specs.Tables.{drop-of, drop-past, put-end, of-none}
 use Rattle.words.specs.Ids.{idAt}
 use Rattle.boxes.specs.Records.{BoxRec, enterTx}
-use Rattle.boxes.specs.Entering.{hideTx, newBox, newBoxes, entered}
+use Rattle.boxes.specs.Entering.{overtakenBy, hidden, hideTx, hide-yes, hide-no, newBox, newBoxes, entered}
 use Rattle.boxes.specs.Flat.{countOf, idsOf, ids}
-use Rattle.boxes.specs.Layout.{BoxesOk, boxesOf, boxes, tail-put}
+use Rattle.boxes.specs.Layout.{BoxesOk, boxAt, boxesOf, boxes, tail-put}
+use Rattle.boxes.specs.Mapped.{put-again}
+
+-- ---- one record, which is hidden or left as it was
+
+module _ (l : List ℕ) (i : ℕ) (ins outs : List ℕ) where
+  pub hide-here : (m : List ℕ) → overtakenBy ins outs (boxAt l i) ≡ true → ((n : ℕ) → boxesOf m n ≡ set (boxesOf l n) i (hidden (boxAt l i)))
+      → (n : ℕ) → boxesOf m n ≡ set (boxesOf l n) i (hideTx ins outs (boxAt l i))
+  hide-here m t e n = e n ∙ ap (set (boxesOf l n) i) (sym (hide-yes ins outs (boxAt l i) t))
+
+  pub leave-here : overtakenBy ins outs (boxAt l i) ≡ false → (n : ℕ) → boxesOf l n ≡ set (boxesOf l n) i (hideTx ins outs (boxAt l i))
+  leave-here t n = put-again boxes l i n ∙ ap (set (boxesOf l n) i) (sym (hide-no ins outs (boxAt l i) t))
+
+-- ---- the writer's loop: the records that are written, and those of the boxes that are left, are together always the same
 
 module _ (o : Bool) (k W : ℕ) (l : List ℕ) where
   -- of i boxes written to the tail t from index at on

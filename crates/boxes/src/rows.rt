@@ -1,5 +1,5 @@
 // The words of the box records: ten for each, the box's id, its owner's id, a flag for an output and one for a live record. A flag is set
-// where its word is not 0. Only the functions of this file know the layout.
+// where its word is not 0. Only the functions of this file know the layout, and `enter_tx`, which lends the tail.
 use words::ids::Id;
 use words::ids::load_id;
 use words::ids::put_id;
@@ -89,7 +89,7 @@ fn put_row(s: &mut [u64], p: usize, b: BoxRow)
 }
 
 // Writes the record at index `at`.
-pub fn store_box(s: &mut [u64], at: usize, b: BoxRow)
+pub(crate) fn store_box(s: &mut [u64], at: usize, b: BoxRow)
     requires { ⌜ BoxesOk (now s) (at + 1) ⌝ }
     ensures { λ _. ⌜ ((m : ℕ) → boxesOf (now (s .exit)) m ≡ set (boxesOf (now (s .entry)) m) at (boxOf b)) ⌝ }
 {
@@ -97,7 +97,7 @@ pub fn store_box(s: &mut [u64], at: usize, b: BoxRow)
 }
 
 // The record at `from`, written at `to` too.
-pub fn move_box(s: &mut [u64], from: usize, to: usize)
+pub(crate) fn move_box(s: &mut [u64], from: usize, to: usize)
     requires { ⌜ BoxesOk (now s) (from + 1) ⌝ }
     requires { ⌜ BoxesOk (now s) (to + 1) ⌝ }
     ensures { λ _. ⌜ ((m : ℕ) → boxesOf (now (s .exit)) m ≡ set (boxesOf (now (s .entry)) m) to (boxAt (now (s .entry)) from)) ⌝ }
@@ -107,7 +107,7 @@ pub fn move_box(s: &mut [u64], from: usize, to: usize)
 }
 
 // The record at index `at` is no more live.
-pub fn hide_box(s: &mut [u64], at: usize)
+pub(crate) fn hide_box(s: &mut [u64], at: usize)
     requires { ⌜ BoxesOk (now s) (at + 1) ⌝ }
     ensures { λ _. ⌜ ((m : ℕ) → boxesOf (now (s .exit)) m ≡ set (boxesOf (now (s .entry)) m) at (hidden (boxAt (now (s .entry)) at))) ⌝ }
 {

@@ -4,12 +4,11 @@ use native.Mathlib.Omega.{arith}
 use borrow.Author.Needs.{needs}
 use Prim.Native.Nat.{_-_}
 use mathlib.Core.Path.{_≡_, refl, sym, ap, _∙_}
-use mathlib.Core.Bool.{not}
-use lib.Dec.{eqb}
 use lib.ListN.{length}
 use Rattle.words.specs.Ids.{idOf}
 use Rattle.words.specs.Lists.{other}
 use Rattle.words.specs.Tables.{Kept, kept-none, kept-no, kept-yes, kept-all}
+use Rattle.boxes.specs.Among.{not-other, is-other}
 use Rattle.boxes.specs.Layout.{boxesOf, boxes, ok-still, ok-bound}
 use Rattle.boxes.proofs.records.drop_owner.Statement.{statement}
 use Rattle.boxes.proofs.records.drop_owner.Tie as tie
@@ -36,10 +35,15 @@ loop-less : tie.Need-loop-less Inv-loop μ-loop
 loop-less c = omega arith
 
 loop-again : tie.Need-loop-again Inv-loop μ-loop
-loop-again c = (c .before .before .before .before .before .loop .inv .0, kept-no boxes _ _ _ _ _ _ (c .before .before .before .before .loop-test .taken) (c .before .before .before .before .before .loop .inv .1) (ap not (ap (λ x. eqb x (idOf (c .before .before .before .before .before .before .before .args .owner))) (sym (c .before .before .box-owner .ensures)) ∙ sym (c .before .same-id .ensures) ∙ c .if1 .taken)))
+loop-again c =
+    let i = c .before .before .before .before .before .loop .inv in
+    (i .0, kept-no boxes _ _ _ _ _ _ (c .before .before .before .before .loop-test .taken) (i .1) (not-other _ _ _ (c .before .before .box-owner .ensures) (sym (c .before .same-id .ensures) ∙ c .if1 .taken)))
 
 move-box-requires : tie.Need-move-box-requires Inv-loop μ-loop
-move-box-requires c κs = (ok-still _ _ _ _ (c .before .before .before .before .before .before .before .before .pre) (c .before .before .before .before .before .before .loop .inv .0) (omega arith), ok-still _ _ _ _ (c .before .before .before .before .before .before .before .before .pre) (c .before .before .before .before .before .before .loop .inv .0) (omega arith))
+move-box-requires c κs =
+    let p = c .before .before .before .before .before .before .before .before .pre in
+    let e = c .before .before .before .before .before .before .loop .inv .0 in
+    (ok-still _ _ _ _ p e (omega arith), ok-still _ _ _ _ p e (omega arith))
 
 add-w : tie.Need-add-w Inv-loop μ-loop
 add-w c = omega (arith, ok-bound _ _ (c .before .before .before .before .before .before .before .before .before .before .before .pre))
@@ -51,7 +55,9 @@ loop-less-2 : tie.Need-loop-less-2 Inv-loop μ-loop
 loop-less-2 c = omega arith
 
 loop-again-2 : tie.Need-loop-again-2 Inv-loop μ-loop
-loop-again-2 c = (omega arith, kept-yes boxes _ _ _ _ _ _ (c .before .before .before .before .before .before .before .before .loop-test .taken) (c .before .before .before .before .before .before .before .before .before .loop .inv .1) _ (ap not (ap (λ x. eqb x (idOf (c .before .before .before .before .before .before .before .before .before .before .before .args .owner))) (sym (c .before .before .before .before .before .before .box-owner .ensures)) ∙ sym (c .before .before .before .before .before .same-id .ensures) ∙ c .before .before .before .before .if1 .left)) (c .before .before .move-box .ensures))
+loop-again-2 c =
+    let t = is-other _ _ _ (c .before .before .before .before .before .before .box-owner .ensures) (sym (c .before .before .before .before .before .same-id .ensures) ∙ c .before .before .before .before .if1 .left) in
+    (omega arith, kept-yes boxes _ _ _ _ _ _ (c .before .before .before .before .before .before .before .before .loop-test .taken) (c .before .before .before .before .before .before .before .before .before .loop .inv .1) _ t (c .before .before .move-box .ensures))
 
 same-length : tie.Need-same-length Inv-loop μ-loop
 same-length c = omega arith
