@@ -1,0 +1,6 @@
+pub mod Owners
+pub mod Conflicts
+pub mod Inputs
+pub mod Parents
+pub mod Seeking
+pub mod Resolved
