@@ -1,0 +1,3 @@
+pub mod Pool
+pub mod Laws
+pub mod Steps

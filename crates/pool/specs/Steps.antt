@@ -1,0 +1,67 @@
+-- What the pool's functions leave, from what their calls leave in each table.
+use Prim.Native.Nat.{ℕ, _+_, _-_, _<_}
+use mathlib.Core.Path.{_≡_, refl, sym, ap, _∙_}
+use mathlib.Core.Bool.{false}
+use mathlib.Core.List.{List}
+use native.Mathlib.Omega.{arith}
+use lib.ListN.{length}
+use Rattle.words.specs.Find.{without}
+use Rattle.types.specs.declared.Counts.{Counts}
+use Rattle.entries.specs.Entries.{Entry, insertBy, pooled}
+use Rattle.entries.specs.Layout.{entriesOf, entries, ok-fewer}
+use Rattle.entries.specs.Layout.{Left as Rows}
+use Rattle.entries.specs.Laws.{but-lowest, left-count}
+use Rattle.boxes.specs.Records.{BoxRec, dropOwner}
+use Rattle.boxes.specs.Layout.{boxesOf, ok-still}
+use Rattle.boxes.specs.Posts.{Entered, Dropped}
+use Rattle.pool.specs.Pool.{Tables, tablesOf, PoolFits, Room, Left, insertTx, removeTx, lowest, dropLow}
+use Rattle.pool.specs.Laws.{away-none, as-many, fewer}
+
+abbrev counts : ℕ → ℕ → Counts
+counts n r = record { pooled = n; records = r }
+
+-- two tables that agree in both parts
+both : {x y : List Entry} {u v : List BoxRec} → x ≡ y → u ≡ v → _≡_ {A = Tables} (record { entries = x; boxes = u }) (record { entries = y; boxes = v })
+both p q = λ i. record { entries = p i; boxes = q i }
+
+module _ (e b : List ℕ) (c : Counts) where
+  module _ (n : List ℕ) (r : ℕ) where
+    -- one came in
+    pub inserted : (m : List ℕ) (x : Entry) (ins outs : List ℕ) (needed : ℕ) → Room e b c needed → Rows e m (c .pooled + 1) (insertBy x (entriesOf e (c .pooled)))
+        → Entered b n (c .records) needed r (x .id) ins outs → Left m n (counts (c .pooled + 1) r) (insertTx x ins outs (tablesOf e b c))
+    inserted m x ins outs needed f p q =
+        record {
+          fits = record { entries = p .ok; boxes = ok-still b n r (c .records + needed) (f .boxes) (q .kept) (omega (arith, q .count)) };
+          tables = both (p .rows) (q .rows);
+        }
+
+    -- the lowest went
+    pub lowered : (k : ℕ) → PoolFits e b c → 0 < c .pooled → k ≡ lowest (tablesOf e b c) .id → Dropped b n (c .records) r k
+        → Left e n (counts (c .pooled - 1) r) (dropLow (tablesOf e b c))
+    lowered k f h p q =
+        record {
+          fits = record { entries = ok-fewer e (c .pooled - 1) (c .pooled) (f .entries) (omega arith); boxes = ok-still b n r (c .records) (f .boxes) (q .kept) (q .fewer) };
+          tables = both (but-lowest e (c .pooled) h) (q .rows ∙ ap (λ (j : ℕ). dropOwner j (boxesOf b (c .records))) p);
+        }
+
+  -- a removal has left s entries: as many as there were, or fewer
+  module _ (m : List ℕ) (k s : ℕ) (f : PoolFits e b c) (p : Rows e m s (without (λ e. e .id) k (entriesOf e (c .pooled)))) where
+    left : length (without (λ e. e .id) k (entriesOf e (c .pooled))) ≡ s
+    left = sym (left-count e m s _ p)
+
+    pub removed-nothing : s ≡ c .pooled → Left m b c (removeTx k (tablesOf e b c))
+    removed-nothing h =
+        record {
+          fits = record { entries = rw h at (p .ok); boxes = f .boxes };
+          tables = rw none (both (rw h at (p .rows) ∙ away-none k (entriesOf e (c .pooled)) none) refl);
+        }
+      where
+        none : pooled k (entriesOf e (c .pooled)) ≡ false
+        none = as-many k (entriesOf e (c .pooled)) (left ∙ h ∙ sym (entries .len e (c .pooled)))
+
+    pub removed-both : (n : List ℕ) (r : ℕ) → (s ≡ c .pooled → ⊥) → Dropped b n (c .records) r k → Left m n (counts s r) (removeTx k (tablesOf e b c))
+    removed-both n r h q =
+        record {
+          fits = record { entries = p .ok; boxes = ok-still b n r (c .records) (f .boxes) (q .kept) (q .fewer) };
+          tables = rw (fewer k (entriesOf e (c .pooled)) (λ z. h (sym left ∙ z ∙ entries .len e (c .pooled)))) (both (p .rows) (q .rows));
+        }
