@@ -1,4 +1,6 @@
 // The pool as its host calls it.
+pub mod queries;
+
 use boxes::rows::boxes_room;
 use entries::fields::entries_room;
 use expiring_cache::cache_room;
