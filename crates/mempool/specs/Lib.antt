@@ -1,2 +1,3 @@
 pub mod Start
 pub mod Queries
+pub mod Listing

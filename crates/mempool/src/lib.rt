@@ -1,4 +1,5 @@
 // The pool as its host calls it.
+pub mod listing;
 pub mod queries;
 
 use boxes::rows::boxes_room;
