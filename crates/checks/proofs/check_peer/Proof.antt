@@ -1,0 +1,47 @@
+-- `checks::check_peer` meets its contract: each return is the chain of `peerRefusal`, answered by the tests before it and its own. Assumes nothing.
+use borrow.Author.Needs.{needs}
+use borrow.Author.Tests.{le-leb, lt-leb}
+use mathlib.Core.Path.{sym, _∙_}
+use Rattle.checks.specs.Checks.{peerRefusal}
+use Rattle.checks.specs.Laws.{yes, no}
+use Rattle.checks.proofs.check_peer.Statement.{statement}
+use Rattle.checks.proofs.check_peer.Tie as tie
+
+returns : tie.Need-returns
+unfolding peerRefusal
+returns c =
+    sym (
+    yes _ _ _ (le-leb _ _ (c .if1 .taken)))
+
+at-limit-requires : tie.Need-at-limit-requires
+at-limit-requires c κs = search needs
+
+returns-2 : tie.Need-returns-2
+unfolding peerRefusal
+returns-2 c =
+    sym (
+    no _ _ _ (lt-leb _ _ (c .before .before .if1 .left)) ∙
+    yes _ _ _ (sym (c .before .at-limit .ensures) ∙ c .if2 .taken))
+
+none-free-requires : tie.Need-none-free-requires
+none-free-requires c κs = search needs
+
+returns-3 : tie.Need-returns-3
+unfolding peerRefusal
+returns-3 c =
+    sym (
+    no _ _ _ (lt-leb _ _ (c .before .before .before .before .if1 .left)) ∙
+    no _ _ _ (sym (c .before .before .before .at-limit .ensures) ∙ c .before .before .if2 .left) ∙
+    yes _ _ _ (sym (c .before .none-free .ensures) ∙ c .if3 .taken))
+
+returns-4 : tie.Need-returns-4
+unfolding peerRefusal
+returns-4 c =
+    sym (
+    no _ _ _ (lt-leb _ _ (c .before .before .before .before .if1 .left)) ∙
+    no _ _ _ (sym (c .before .before .before .at-limit .ensures) ∙ c .before .before .if2 .left) ∙
+    no _ _ _ (sym (c .before .none-free .ensures) ∙ c .if3 .left))
+
+pub check-peer-spec : {M : Type 1} → statement M
+check-peer-spec =
+    tie.close (tie.spec returns at-limit-requires returns-2 none-free-requires returns-3 returns-4)

@@ -1,0 +1,67 @@
+-- Laws of the tests: how a chain of them is answered, and what follows where none fails.
+use Prim.Native.Nat.{ℕ, _+_, _≤_, _<_}
+use mathlib.Core.Path.{_≡_, refl, sym, ap, _∙_}
+use mathlib.Core.Bool.{Bool, true, false, not, _&&_}
+use mathlib.Core.List.{List}
+use native.Mathlib.Omega.{arith}
+use lib.Dec.{ltb}
+use borrow.Author.Tests.{lt-ltb, le-ltb, eq-eqb, ne-eqb}
+use Rattle.words.specs.Lists.{pick}
+use Rattle.words.specs.Sums.{cap}
+use Rattle.arguments.specs.Arguments.{feeOf, feeSum}
+use Rattle.arguments.specs.declared.FeeSum.{FeeSum}
+use Rattle.arguments.specs.declared.FeeSum.the-variants.{Sum, Beyond}
+use Rattle.checks.specs.Checks.{first}
+
+-- ---- a test that fails, and one that does not
+
+pub yes : {A : Type 0} (b : Bool) (x y : A) → b ≡ true → pick b x y ≡ x
+yes {A} b x y e = ap (λ (t : Bool). pick t x y) e
+
+pub no : {A : Type 0} (b : Bool) (x y : A) → b ≡ false → pick b x y ≡ y
+no {A} b x y e = ap (λ (t : Bool). pick t x y) e
+
+-- a number that is answered, and one that lets the next be asked
+pub stops : (m n : ℕ) {r : ℕ} → r ≡ m → (r ≡ 0 → ⊥) → r ≡ first m n
+stops m n e h = e ∙ sym (no _ _ _ (ne-eqb m 0 (λ z. h (e ∙ z))))
+
+pub goes : (m n : ℕ) {r : ℕ} → r ≡ m → r ≡ 0 → first m n ≡ n
+goes m n e h = yes _ _ _ (eq-eqb m 0 (sym e ∙ h))
+
+-- ---- single tests
+
+-- 1: of two lists the first is not whole
+pub not-first : (a b : Bool) → a ≡ false → false ≡ (a && b)
+not-first a b p = rw p
+
+-- 2: a buffer of `room` ids against n pooled and one more
+pub short : (room n : ℕ) → room ≤ n → ltb room (n + 1) ≡ true
+short room n h = lt-ltb room (n + 1) (omega arith)
+
+pub enough : (room n : ℕ) → n < room → ltb room (n + 1) ≡ false
+enough room n h = le-ltb room (n + 1) (omega arith)
+
+-- 4: what the sum is, by whether it passes 2^64−1
+module _ (outs : List ℕ) where
+  abbrev Says : FeeSum → Type 0
+  Says Beyond = true ≡ ltb cap (feeOf outs)
+  Says (Sum s) = false ≡ ltb cap (feeOf outs)
+
+  says : (s : FeeSum) → s ≡ feeSum outs → Says s
+  unfolding feeSum
+  says s e = go (ltb cap (feeOf outs)) refl s e
+    where
+      go : (t : Bool) → ltb cap (feeOf outs) ≡ t → (s : FeeSum) → s ≡ pick t Beyond (Sum (feeOf outs)) → Says s
+      go true q s e = rw e (sym q)
+      go false q s e = rw e (sym q)
+
+  pub fee-beyond : {s : FeeSum} → s ≡ feeSum outs → s ≡ Beyond → true ≡ ltb cap (feeOf outs)
+  fee-beyond {s} e p = says Beyond (sym p ∙ e)
+
+  pub fee-within : {s : FeeSum} (n : ℕ) → s ≡ feeSum outs → s ≡ Sum n → false ≡ ltb cap (feeOf outs)
+  fee-within {s} n e p = says (Sum n) (sym p ∙ e)
+
+-- 27: the code tests for room
+pub not-not : (b : Bool) → not (not b) ≡ b
+not-not true = refl
+not-not false = refl

@@ -1,0 +1,240 @@
+// The tests of a submission up to its verdict. Each function gives the number of the first test that fails, and 0 where none does.
+use arguments::FeeSum;
+use arguments::count_records;
+use arguments::extract_fee;
+use arguments::height_key;
+use arguments::height_order;
+use arguments::is_whole;
+use entries::table::is_pooled;
+use expiring_cache::contains;
+use indexes::resolved::inputs_resolved;
+use peers::Standing;
+use pool::room_for;
+use types::Counts;
+use types::Mempool;
+use types::Source;
+use types::Submission;
+use types::Verdict;
+ghost use mathlib.Core.Path.{_≡_};
+ghost use mathlib.Core.Bool.{_&&_};
+ghost use Prim.Native.Nat.{_+_};
+ghost use lib.Dec.{ltb};
+ghost use Rattle.words.specs.Sums.{cap};
+ghost use Rattle.arguments.specs.Arguments.{whole, records, feeOf, heightKey, aheadOf};
+ghost use Rattle.expiring_cache.specs.Layout.{CacheOk, cacheOf};
+ghost use Rattle.entries.specs.Layout.{EntriesOk, entriesOf, entriesRoom};
+ghost use Rattle.boxes.specs.Layout.{boxesRoom};
+ghost use Rattle.pool.specs.Pool.{PoolFits, tablesOf, noRoom};
+ghost use Rattle.checks.specs.Checks.{dear, remote, callRefusal, peerRefusal, stateRefusal, listRefusal, refusalOf, Fits};
+
+// The greatest size, and the greatest cost of a verdict.
+const MAX_TX_SIZE: u64 = 98304;
+
+const MAX_COST: u64 = 4294967295;
+// How many inputs are allowed, so that lookups stay cheap.
+const MAX_TX_INPUTS: usize = 5000;
+// How many peers can have a record.
+const PEER_RECORDS: usize = 256;
+
+// ---- what the call brings
+
+// Whether both lists are whole numbers of records.
+fn are_whole(inputs: &[u64], outputs: &[u64]) -> bool
+    ensures { λ r. ⌜ r ≡ (whole 5 (now (inputs .entry)) && whole 7 (now (outputs .entry))) ⌝ }
+{
+    if is_whole(inputs, 5) {
+        return is_whole(outputs, 7);
+    }
+    false
+}
+
+// Whether the flagged values add up to more than a word holds.
+fn is_fee_beyond(outputs: &[u64]) -> bool
+    ensures { λ r. ⌜ r ≡ ltb cap (feeOf (now (outputs .entry))) ⌝ }
+{
+    match extract_fee(outputs) {
+        FeeSum::Sum(_) => false,
+        FeeSum::Beyond => true,
+    }
+}
+
+// Whether the verdict is valid at a cost of more than 32 bits.
+fn is_dear(verdict: Verdict) -> bool
+    ensures { λ r. ⌜ r ≡ dear verdict ⌝ }
+{
+    match verdict {
+        Verdict::Valid(cost) => MAX_COST < cost,
+        Verdict::Invalid => false,
+        Verdict::Absent => false,
+    }
+}
+
+// Refusals 20, 1, 2, 3, 4, 5, where the answer has room for so many ids.
+pub fn check_call(
+    mempool: Mempool,
+    room: usize,
+    sub: Submission,
+    inputs: &[u64],
+    outputs: &[u64],
+) -> u64
+    ensures { λ r. ⌜ r ≡ callRefusal mempool room sub (now (inputs .entry)) (now (outputs .entry)) ⌝ }
+{
+    if mempool.pass.open {
+        return 20;
+    }
+    if !are_whole(inputs, outputs) {
+        return 1;
+    }
+    if room <= mempool.counts.pooled {
+        return 2;
+    }
+    if MAX_TX_SIZE < sub.size {
+        return 3;
+    }
+    if is_fee_beyond(outputs) {
+        return 4;
+    }
+    let verdict = sub.verdict;
+    if is_dear(verdict) {
+        return 5;
+    }
+    0
+}
+
+// ---- what the pool holds against it
+
+fn is_remote(source: Source) -> bool
+    ensures { λ r. ⌜ r ≡ remote source ⌝ }
+{
+    match source {
+        Source::Local => false,
+        Source::Peer(_) => true,
+    }
+}
+
+// Refusals 24, 25, 26 of a peer that stands so.
+fn check_peer(mempool: Mempool, standing: Standing) -> u64
+    ensures { λ r. ⌜ r ≡ peerRefusal mempool standing ⌝ }
+{
+    if mempool.config.cost_per_block <= mempool.sums.interblock_cost {
+        return 24;
+    }
+    if standing.at_limit(mempool.config.cost_per_peer_per_block) {
+        return 25;
+    }
+    if standing.none_free(PEER_RECORDS, mempool.sums.peers) {
+        return 26;
+    }
+    0
+}
+
+// Refusals 22, 23, 24, 25, 26. The standing of a local submission is not looked at.
+pub fn check_state(
+    entries: &[u64],
+    cache: &[u64],
+    mempool: Mempool,
+    standing: Standing,
+    sub: Submission,
+) -> u64
+    requires { ⌜ EntriesOk (now entries) (mempool .counts .pooled) ⌝ }
+    requires { ⌜ CacheOk (now cache) (mempool .cached) ⌝ }
+    ensures { λ r. ⌜ r ≡ stateRefusal mempool (cacheOf (now (cache .entry)) (mempool .cached)) (entriesOf (now (entries .entry)) (mempool .counts .pooled)) standing sub ⌝ }
+{
+    if contains(
+        cache,
+        mempool.cached,
+        mempool.config.invalidation_ttl,
+        sub.time,
+        sub.id,
+    ) {
+        return 22;
+    }
+    if is_pooled(entries, mempool.counts.pooled, sub.id) {
+        return 23;
+    }
+    let source = sub.source;
+    if is_remote(source) {
+        return check_peer(mempool, standing);
+    }
+    0
+}
+
+// ---- its inputs and outputs
+
+// Whether an output's height is above the preheader.
+fn is_ahead(outputs: &[u64], preheader: u32) -> bool
+    ensures { λ r. ⌜ r ≡ aheadOf (heightKey 7 6 (now (outputs .entry))) preheader ⌝ }
+{
+    height_order(preheader as u64) < height_key(outputs, 7, 6)
+}
+
+// Whether the newcomer's entry, or the records of its inputs and outputs, find no room.
+fn lacks_room(
+    entries: &[u64],
+    boxes: &[u64],
+    counts: Counts,
+    inputs: &[u64],
+    outputs: &[u64],
+) -> bool
+    requires { ⌜ PoolFits (now entries) (now boxes) counts ⌝ }
+    ensures { λ r. ⌜ r ≡ noRoom (entriesRoom (now (entries .entry))) (boxesRoom (now (boxes .entry))) (tablesOf (now (entries .entry)) (now (boxes .entry)) counts) (records 5 (now (inputs .entry)) + records 7 (now (outputs .entry))) ⌝ }
+{
+    let needed = count_records(inputs, 5) + count_records(outputs, 7);
+    !room_for(entries, boxes, counts, needed)
+}
+
+// Refusals 7, 27, 28, 8.
+pub fn check_lists(
+    entries: &[u64],
+    boxes: &[u64],
+    mempool: Mempool,
+    sub: Submission,
+    inputs: &[u64],
+    outputs: &[u64],
+) -> u64
+    requires { ⌜ PoolFits (now entries) (now boxes) (mempool .counts) ⌝ }
+    ensures { λ r. ⌜ r ≡ listRefusal 5000 (entriesRoom (now (entries .entry))) (boxesRoom (now (boxes .entry))) (tablesOf (now (entries .entry)) (now (boxes .entry)) (mempool .counts)) sub (now (inputs .entry)) (now (outputs .entry)) ⌝ }
+{
+    if MAX_TX_INPUTS < count_records(inputs, 5) {
+        return 7;
+    }
+    let counts = mempool.counts;
+    if lacks_room(entries, boxes, counts, inputs, outputs) {
+        return 27;
+    }
+    if !inputs_resolved(boxes, counts.records, inputs) {
+        return 28;
+    }
+    if is_ahead(outputs, sub.preheader) {
+        return 8;
+    }
+    0
+}
+
+// ---- all of them
+
+// Every test up to the verdict, in document 01's order.
+pub fn check(
+    entries: &[u64],
+    boxes: &[u64],
+    cache: &[u64],
+    mempool: Mempool,
+    room: usize,
+    standing: Standing,
+    sub: Submission,
+    inputs: &[u64],
+    outputs: &[u64],
+) -> u64
+    requires { ⌜ Fits (now entries) (now boxes) (now cache) mempool ⌝ }
+    ensures { λ r. ⌜ r ≡ refusalOf 5000 (entriesRoom (now (entries .entry))) (boxesRoom (now (boxes .entry))) mempool room (tablesOf (now (entries .entry)) (now (boxes .entry)) (mempool .counts)) (cacheOf (now (cache .entry)) (mempool .cached)) standing sub (now (inputs .entry)) (now (outputs .entry)) ⌝ }
+{
+    let call = check_call(mempool, room, sub, inputs, outputs);
+    if call != 0 {
+        return call;
+    }
+    let state = check_state(entries, cache, mempool, standing, sub);
+    if state != 0 {
+        return state;
+    }
+    check_lists(entries, boxes, mempool, sub, inputs, outputs)
+}
