@@ -1,0 +1,4 @@
+pub mod Text
+pub mod TextLaws
+pub mod Nums
+pub mod NumLaws

@@ -1,0 +1,3 @@
+// Bracket forms: lines read and answers printed.
+pub mod nums;
+pub mod text;

@@ -1,0 +1,5 @@
+pub mod Fields
+pub mod FieldLaws
+pub mod Items
+pub mod ItemLaws
+pub mod Forms

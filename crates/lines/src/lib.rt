@@ -1,0 +1,4 @@
+// The forms of poolrun: lines read into arguments, answers printed.
+pub mod fields;
+pub mod items;
+pub mod read;
