@@ -1,0 +1,16 @@
+-- `admission::outcome_of` meets its contract, case by case. Assumes nothing.
+use borrow.Author.Tests.{eq-eqb, ne-eqb}
+use Rattle.types.specs.Outcomes.{processedOf}
+use Rattle.admit.proofs.admission.outcome_of.Statement.{statement}
+use Rattle.admit.proofs.admission.outcome_of.Tie as tie
+
+returns : tie.Need-returns
+unfolding processedOf
+returns c = rw (eq-eqb _ 0 (c .if1 .taken))
+
+returns-2 : tie.Need-returns-2
+unfolding processedOf
+returns-2 c = rw (ne-eqb _ 0 (c .if1 .left))
+
+pub outcome-of-spec : {M : Type 1} → statement M
+outcome-of-spec = tie.close (tie.spec returns returns-2)

@@ -1,0 +1,112 @@
+-- What the test of 29 goes by: whether a box is spent at all, one weight, the sum of weights id by id, and the test as the code makes it.
+use Prim.Native.Nat.{ℕ, _+_, _*_, _^_, _≤_, _<_}
+use mathlib.Core.Path.{_≡_, refl, sym, ap, _∙_}
+use mathlib.Core.Bool.{Bool, true, false}
+use mathlib.Core.List.{List, [], _∷_, _++_}
+use native.Mathlib.Nat.{add-assoc, add-zero}
+use native.Mathlib.Omega.{arith}
+use lib.Dec.{leb}
+use lib.ListN.{length, drop}
+use borrow.Author.Tests.{eq-eqb, ne-eqb}
+use Rattle.words.specs.Lists.{pick}
+use Rattle.words.specs.Tables.{drop-of, drop-past}
+use Rattle.words.specs.Ids.{idAt}
+use Rattle.words.specs.Sums.{cap, quotientOf}
+use Rattle.words.specs.Wide.{wideOf, sum-more, sum-room}
+use Rattle.words.specs.declared.wide.Wide.{Wide}
+use Rattle.entries.specs.Entries.{Entry, placeOf}
+use Rattle.entries.specs.Layout.{entryAt, entriesOf, entries}
+use Rattle.entries.specs.Laws.{at-place, no-place, place-fits}
+use Rattle.entries.specs.declared.table.Place.the-variants.{At, Nowhere}
+use Rattle.boxes.specs.Records.{Pair, lookup, flat, conflicts}
+use Rattle.boxes.specs.Flat.{idsTo, ids}
+use Rattle.admit.specs.Admit.{weightOf, weightsOf, loses}
+
+-- ---- whether one of these boxes is spent
+
+abbrev pub some : List ℕ → Bool
+some [] = false
+some (k ∷ ks) = true
+
+abbrev pub spent : List Pair → List ℕ → Bool
+spent ps [] = false
+spent ps (b ∷ bs) = pick (some (lookup ps b)) true (spent ps bs)
+
+-- where none is, nobody is in conflict
+pub unspent : (ps : List Pair) (bs : List ℕ) → spent ps bs ≡ false → conflicts ps bs ≡ []
+unspent ps bs h = rw (go bs h)
+  where
+    nobody : (ks : List ℕ) {r : List ℕ} {t : Bool} → (t ≡ false → r ≡ []) → pick (some ks) true t ≡ false → ks ++ r ≡ []
+    nobody [] e q = e q
+    nobody (k ∷ ks) e q = let z : _≡_ {A = ℕ} 0 1 = cc in absurd (omega arith)
+
+    go : (bs : List ℕ) → spent ps bs ≡ false → flat (lookup ps) bs ≡ []
+    go [] h = refl
+    go (b ∷ bs) h = nobody (lookup ps b) (go bs) h
+
+-- input by input: what is left to look at gives what all of them give
+module _ (ps : List Pair) (l : List ℕ) (n i : ℕ) where
+  spent-step : i < n → spent ps (drop i (idsTo 5 l n)) ≡ pick (some (lookup ps (idAt l (i * 5)))) true (spent ps (drop (i + 1) (idsTo 5 l n)))
+  spent-step h = rw (drop-of (ids 5) l n i h)
+
+  module _ (h : i < n) (k : ℕ) (e : k ≡ idAt l (i * 5)) where
+    pub spent-hit : some (lookup ps k) ≡ true → spent ps (drop i (idsTo 5 l n)) ≡ true
+    spent-hit t = spent-step h ∙ rw (← e, t)
+
+    pub spent-miss : some (lookup ps k) ≡ false → spent ps (drop i (idsTo 5 l n)) ≡ spent ps (drop (i + 1) (idsTo 5 l n))
+    spent-miss t = spent-step h ∙ rw (← e, t)
+
+  pub spent-end : n ≤ i → spent ps (drop i (idsTo 5 l n)) ≡ false
+  spent-end h = rw (drop-past (ids 5) l n i h)
+
+-- ---- one weight
+
+module _ (l : List ℕ) (n k : ℕ) where
+  pub weight-there : (i : ℕ) → placeOf k (entriesOf l n) ≡ At i → entryAt l i .weight ≡ weightOf k (entriesOf l n)
+  weight-there i p = rw (at-place k i (entriesOf l n) p .one (entryAt l i), entries .get l n i (entryAt l i) (place-fits l n k i p))
+
+  pub weight-nowhere : placeOf k (entriesOf l n) ≡ Nowhere → 0 ≡ weightOf k (entriesOf l n)
+  weight-nowhere p = rw (no-place k (entriesOf l n) p .none)
+
+-- ---- their sum: of i ids of a list done, what is left to add gives what all of them give
+
+-- shut, as `omega` stops at products of this size
+pub Few : ℕ → Wide → Type 0
+Few i sum = wideOf sum ≤ i * cap
+
+pub record Weighing (es : List Entry) (l : List ℕ) (n i : ℕ) (sum : Wide) : Type 0 where
+  pub done : i ≤ n
+  pub few : Few i sum
+  pub left : wideOf sum + weightsOf (drop i (idsTo 4 l n)) es ≡ weightsOf (idsTo 4 l n) es
+
+module _ (es : List Entry) (l : List ℕ) (n : ℕ) where
+  pub weighing-none : Weighing es l n 0 (record { high = 0; low = 0 })
+  unfolding wideOf Few
+  weighing-none = record { done = omega arith; few = omega arith; left = omega arith }
+
+  pub weighing-room : (i : ℕ) (sum : Wide) → i < n → n ≤ 5000 → Weighing es l n i sum → sum .high + 1 < 2 ^ 64
+  unfolding Few
+  weighing-room i sum h b w = sum-room sum i (w .few) (omega arith)
+
+  pub weighing-more : (i k x : ℕ) (sum to : Wide) → i < n → Weighing es l n i sum → x < 2 ^ 64 → k ≡ idAt l (i * 4) → x ≡ weightOf k es → wideOf to ≡ wideOf sum + x → Weighing es l n (i + 1) to
+  unfolding Few
+  weighing-more i k x sum to h w b p e q =
+      record {
+        done = omega arith;
+        few = rw q (sum-more sum i (w .few) x b);
+        left = rw (q, e, p) (add-assoc (wideOf sum) _ _ ∙ ap (λ (ks : List ℕ). wideOf sum + weightsOf ks es) (sym (drop-of (ids 4) l n i h)) ∙ w .left);
+      }
+
+  pub weighing-all : (i : ℕ) (sum : Wide) → n ≤ i → Weighing es l n i sum → wideOf sum ≡ weightsOf (idsTo 4 l n) es
+  weighing-all i sum h w = sym (add-zero (wideOf sum)) ∙ rw (drop-past (ids 4) l n i h) at (w .left)
+
+-- ---- 29
+
+module _ (base : ℕ) (es : List Entry) (l : List ℕ) (n : ℕ) where
+  pub loses-not : n ≡ 0 → false ≡ loses base (idsTo 4 l n) es
+  unfolding loses
+  loses-not h = rw (ids 4 .len l n, eq-eqb n 0 h)
+
+  pub loses-by : (sum : Wide) (v : ℕ) → (n ≡ 0 → ⊥) → wideOf sum ≡ weightsOf (idsTo 4 l n) es → v ≡ quotientOf (wideOf sum) n → leb base v ≡ loses base (idsTo 4 l n) es
+  unfolding loses
+  loses-by sum v h e q = rw (q, e, ids 4 .len l n, ne-eqb n 0 h)

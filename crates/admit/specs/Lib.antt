@@ -1,0 +1,4 @@
+pub mod Admit
+pub mod Contests
+pub mod Evictions
+pub mod Admission
