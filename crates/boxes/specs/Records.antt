@@ -5,7 +5,7 @@ use mathlib.Core.Path.{_≡_, refl}
 use mathlib.Core.Bool.{Bool, true, false, not, _&&_}
 use mathlib.Core.List.{List, [], _∷_, _++_, map}
 use lib.Dec.{eqb}
-use Rattle.words.specs.Lists.{pick, keep, other, count}
+use Rattle.words.specs.Lists.{pick, keep, other, count, flat}
 
 pub record BoxRec : Type 0 where
   pub box : ℕ
@@ -68,10 +68,6 @@ isInput k r = eqb (r .owner) k && not (r .out)
 abbrev pub inputsOf : ℕ → List BoxRec → List ℕ
 inputsOf k [] = []
 inputsOf k (r ∷ rs) = pick (isInput k r) (r .box ∷ inputsOf k rs) (inputsOf k rs)
-
-abbrev pub flat : (ℕ → List ℕ) → List ℕ → List ℕ
-flat f [] = []
-flat f (x ∷ xs) = f x ++ flat f xs
 
 -- document 01, "Credits to parents": a transaction's "inputs' producers in input order", "a repeated input counts twice"
 abbrev pub parents : List BoxRec → ℕ → List ℕ

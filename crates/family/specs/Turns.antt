@@ -8,7 +8,8 @@ use native.Mathlib.Omega.{arith}
 use lib.ListN.{length, take}
 use lib.Seq.{take-length}
 use Rattle.entries.specs.Entries.{Entry, credit}
-use Rattle.boxes.specs.Records.{BoxRec, index, lookup, flat, inputsOf, parents}
+use Rattle.words.specs.Lists.{flat}
+use Rattle.boxes.specs.Records.{BoxRec, index, lookup, inputsOf, parents}
 use Rattle.pool.specs.Pool.{credits}
 use Rattle.family.specs.Walk.{visits}
 use Rattle.family.specs.Chains.{walked}

@@ -8,12 +8,12 @@ use lib.Dec.{eqb}
 use lib.ListN.{length, drop}
 use lib.Seq.{drop-drop, drop-set-lt}
 use borrow.Author.Tests.{not-true, not-false}
-use Rattle.words.specs.Lists.{count}
+use Rattle.words.specs.Lists.{count, flat}
 use Rattle.words.specs.Rows.{stored}
 use Rattle.words.specs.Tables.{drop-of, drop-past, put-end}
 use Rattle.words.specs.Ids.{idOf, idAt, idWords}
 use Rattle.words.specs.declared.ids.Id.{Id}
-use Rattle.boxes.specs.Records.{Pair, lookup, flat, once, dedup, conflicts}
+use Rattle.boxes.specs.Records.{Pair, lookup, once, dedup, conflicts}
 use Rattle.boxes.specs.Among.{among}
 use Rattle.boxes.specs.Flat.{countOf, idsTo, idsOf, ids, ids-put}
 use Rattle.indexes.specs.declared.owners.Owner.{Owner}

@@ -10,9 +10,9 @@ use native.Mathlib.Omega.{arith}
 use lib.Dec.{eqb}
 use lib.ListN.{length, take, length-take}
 use lib.Seq.{take-take}
-use Rattle.words.specs.Lists.{pick}
+use Rattle.words.specs.Lists.{pick, flat}
 use Rattle.words.specs.Ids.{idOf}
-use Rattle.boxes.specs.Records.{Pair, lookup, flat}
+use Rattle.boxes.specs.Records.{Pair, lookup}
 use Rattle.indexes.specs.declared.inputs.Parent.{Parent}
 use Rattle.indexes.specs.declared.inputs.Parent.the-variants.{Of, NoParent}
 
