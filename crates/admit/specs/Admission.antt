@@ -1,6 +1,6 @@
 -- What an admission leaves, way by way.
 use Prim.Native.Nat.{ℕ, suc, _+_, _≤_, _<_}
-use mathlib.Core.Path.{_≡_, refl, ap, subst, _∙_}
+use mathlib.Core.Path.{_≡_, refl, sym, ap, subst, _∙_}
 use mathlib.Core.Bool.{Bool, true, false}
 use mathlib.Core.List.{List, [], _∷_, _++_}
 use native.Mathlib.Nat.{zero-add}
@@ -11,21 +11,30 @@ use borrow.Author.Tests.{lt-ltb, le-ltb, ne-eqb}
 use Rattle.words.specs.Lists.{pick, keep}
 use Rattle.words.specs.Find.{without}
 use Rattle.types.specs.Outcomes.{processedOf, refused, done, wrote}
+use Rattle.words.specs.Tables.{of-none}
+use Rattle.words.specs.Sums.{cap}
 use Rattle.types.specs.declared.Counts.{Counts}
+use Rattle.types.specs.declared.MempoolConfig.{MempoolConfig}
+use Rattle.types.specs.declared.Submission.{Submission}
 use Rattle.types.specs.declared.ProcessingOutcome.{ProcessingOutcome}
 use Rattle.types.specs.declared.ProcessingOutcome.the-variants.{Declined, DoubleSpendLoser}
+use Rattle.weight.specs.Weight.{feePerFactor}
+use Rattle.arguments.specs.Arguments.{feeOf, feeSum}
+use Rattle.arguments.specs.declared.FeeSum.{FeeSum}
+use Rattle.arguments.specs.declared.FeeSum.the-variants.{Sum, Beyond}
 use Rattle.entries.specs.Entries.{Entry, pooled}
 use Rattle.entries.specs.Layout.{entriesOf, entries}
 use Rattle.entries.specs.Layout.{ok-still as entries-still, ok-fewer as entries-fewer}
 use Rattle.entries.specs.Laws.{length-without}
-use Rattle.boxes.specs.Records.{BoxRec, dropOwner}
-use Rattle.boxes.specs.Flat.{idsOf}
+use Rattle.boxes.specs.Records.{dropOwner, index, conflicts}
+use Rattle.boxes.specs.Flat.{idsTo, idsOf, ids}
 use Rattle.boxes.specs.Layout.{boxesOf, boxes}
 use Rattle.boxes.specs.Layout.{ok-still as boxes-still}
 use Rattle.pool.specs.Pool.{Tables, tablesOf, PoolFits, Room, Left, insertTx, removeTx, removeAll, evict, evicted}
 use Rattle.family.specs.Family.{propagated}
 use Rattle.answers.specs.Answers.{Wrote, wrote-nothing, wrote-both}
-use Rattle.admit.specs.Admit.{Admitted, loses, crowded, joined, settled, seated, contested}
+use Rattle.admit.specs.Admit.{Admitted, costOf, loses, crowded, newcomer, joined, settled, seated, contested, admitSpec}
+use Rattle.admit.specs.Contests.{spent, unspent}
 use Rattle.admit.specs.Evictions.{Evicts}
 use Rattle.admit.specs.declared.admission.Admission.{Admission}
 use Rattle.admit.specs.declared.evictions.Evicted.{Evicted}
@@ -125,3 +134,31 @@ module _ (visits capacity : ℕ) (x : Entry) (ins outs ks : List ℕ) (t : Table
       → Leaves e b r a₀ a (contested visits capacity x ins outs ks t)
   unfolding contested
   contest-won e b r a₀ a u h p l = rw (h, ← p) l
+
+-- ---- 10, or the contest; where none of its boxes is spent there is nobody to contest with
+
+module _ (visits : ℕ) (g : MempoolConfig) (t : Tables) (a : Submission) (c : ℕ) (ins outs : List ℕ) (fee : ℕ) (p : fee ≡ feeOf outs) where
+  pub fee-refused : (e b : List ℕ) (d : Counts) (a₀ : List ℕ) → Left e b d t → fee < g .«min_fee»
+      → Leaves e b (record { counts = d; outcome = Declined 10 }) a₀ a₀ (admitSpec visits g t a c ins outs)
+  unfolding admitSpec processedOf
+  fee-refused e b d a₀ l h = rw (← p, lt-ltb fee (g .«min_fee») h) (record { left = l; outcome = refl; wrote = wrote-nothing a₀ 0 })
+
+  module _ (e b : List ℕ) (r : Admission) (a₀ a₁ : List ℕ) (h : g .«min_fee» ≤ fee) (x : Entry) (base cost : ℕ) (k : cost ≡ costOf c (a .size)) (q : base ≡ feePerFactor (g .«fee_strategy») fee (a .size) cost) (o : x ≡ newcomer a c base ins outs) where
+    pub fee-contested : Leaves e b r a₀ a₁ (contested visits (g .capacity) x ins outs (conflicts (index false (t .boxes)) (idsOf 5 ins)) t) → Leaves e b r a₀ a₁ (admitSpec visits g t a c ins outs)
+    unfolding admitSpec
+    fee-contested l = rw (← p, le-ltb fee (g .«min_fee») h, ← k, ← q, ← o) l
+
+    pub fee-free : (l : List ℕ) → spent (index false (t .boxes)) (idsOf 5 ins) ≡ false → Leaves e b r a₀ a₁ (seated visits (g .capacity) x ins outs (idsTo 4 l 0) t) → Leaves e b r a₀ a₁ (admitSpec visits g t a c ins outs)
+    unfolding contested loses
+    fee-free l s w = fee-contested (rw (unspent (index false (t .boxes)) (idsOf 5 ins) s) (rw (of-none (ids 4) l) at w))
+
+-- the fee of outputs whose sum is in bounds
+pub fee-read : (outs : List ℕ) → feeOf outs ≤ cap → feeSum outs ≡ Sum (feeOf outs)
+unfolding feeSum
+fee-read outs h = rw (le-ltb cap (feeOf outs) h)
+
+pub fee-beyond : (outs : List ℕ) {A : Type 0} → feeOf outs ≤ cap → feeSum outs ≡ Beyond → A
+fee-beyond outs h e = let q : Sum (feeOf outs) ≡ Beyond = sym (fee-read outs h) ∙ e in let z : _≡_ {A = ℕ} 0 1 = cc in absurd (omega arith)
+
+pub fee-same : (outs : List ℕ) (fee : ℕ) → feeOf outs ≤ cap → feeSum outs ≡ Sum fee → fee ≡ feeOf outs
+fee-same outs fee h e = let q : Sum (feeOf outs) ≡ Sum fee = sym (fee-read outs h) ∙ e in cc

@@ -14,13 +14,15 @@ use Rattle.types.specs.declared.MempoolConfig.{MempoolConfig}
 use Rattle.types.specs.declared.Submission.{Submission}
 use Rattle.types.specs.declared.Source.{Source}
 use Rattle.types.specs.declared.Source.the-variants.{Local, Peer}
+use Rattle.types.specs.declared.Verdict.the-variants.{Valid}
+use Rattle.types.specs.declared.FeeStrategy.the-variants.{FeePerByte}
 use Rattle.types.specs.Outcomes.{Outcome, refused, done, wrote}
 use Rattle.weight.specs.Weight.{feePerFactor}
 use Rattle.arguments.specs.Arguments.{records, feeOf, heightKey}
 use Rattle.entries.specs.Entries.{Entry, ahead}
 use Rattle.entries.specs.declared.fields.ValidationCost.the-variants.{Unmeasured, Measured}
 use Rattle.boxes.specs.Records.{index, conflicts}
-use Rattle.boxes.specs.Flat.{idsOf}
+use Rattle.boxes.specs.Flat.{idsTo, idsOf}
 use Rattle.pool.specs.Pool.{Tables, insertTx, removeAll, nobody, evict, evicted}
 use Rattle.family.specs.Family.{propagated}
 
@@ -121,3 +123,59 @@ unfoldable pub admitSpec : ℕ → MempoolConfig → Tables → Submission → �
 admitSpec visits g t a c ins outs =
     pick (ltb (feeOf outs) (g .«min_fee»)) (record { outcome = refused 10 0; tables = t; written = [] })
     (contested visits (g .capacity) (newcomer a c (baseOf g a c outs) ins outs) ins outs (conflicts (index false (t .boxes)) (idsOf 5 ins)) t)
+
+-- ---- on the edges
+
+abbrev sample : ℕ → ℕ → Entry
+sample k w = record { id = k; weight = w; base = w; size = 0; cost = 0; validationCost = Unmeasured; created = 0; lastChecked = 0; heightKey = 0; inputs = 0 }
+
+abbrev two : List Entry
+two = sample 1 15 ∷ sample 2 10 ∷ []
+
+-- "Conflicts 10 and 15: 12 loses, 13 wins." One that is not pooled weighs nothing and counts; nobody loses against nobody
+contests : (loses 12 (2 ∷ 1 ∷ []) two ≡ true) × (loses 13 (2 ∷ 1 ∷ []) two ≡ false) × (loses 8 (2 ∷ 1 ∷ 3 ∷ []) two ≡ true) × (loses 9 (2 ∷ 1 ∷ 3 ∷ []) two ≡ false) × (loses 0 [] two ≡ false)
+unfolding loses
+contests = (refl, refl, refl, refl, refl)
+
+-- sums past 2^64−1 are exact
+exact : (loses cap (1 ∷ 2 ∷ []) (sample 1 cap ∷ sample 2 cap ∷ []) ≡ true) × (loses cap (1 ∷ 2 ∷ []) (sample 1 cap ∷ sample 2 10 ∷ []) ≡ false)
+unfolding loses
+exact = (refl, refl)
+
+-- a full pool refuses a base equal to its lowest weight; one that is not full, or empty, refuses none
+crowds : (crowded 2 10 two ≡ true) × (crowded 2 11 two ≡ false) × (crowded 3 0 two ≡ false) × (crowded 0 0 [] ≡ false)
+unfolding crowded
+crowds = (refl, refl, refl, refl)
+
+-- "`Accepted` names no evicted ids; `Replaced` lists conflicts, then evicted."
+abbrev pool : Tables
+pool = record { entries = two; boxes = [] }
+
+lists : (settled 1 (7 ∷ []) pool ≡ record { outcome = wrote 2; tables = record { entries = sample 1 15 ∷ []; boxes = [] }; written = 7 ∷ 2 ∷ [] }) × (settled 0 [] pool ≡ record { outcome = done; tables = record { entries = []; boxes = [] }; written = [] })
+unfolding settled
+lists = (refl, refl)
+
+-- "Capacity 0, empty pool: `Accepted`, pool empty"
+abbrev none : Tables
+none = record { entries = []; boxes = [] }
+
+abbrev settings : MempoolConfig
+settings =
+    record {
+      capacity = 0;
+      «min_fee» = 0;
+      «fee_strategy» = FeePerByte;
+      «cleanup_interval» = 0;
+      «rebroadcast_count» = 0;
+      «invalidation_ttl» = 0;
+      «invalidation_capacity» = 0;
+      «cost_per_block» = 0;
+      «cost_per_peer_per_block» = 0;
+    }
+
+abbrev offered : Submission
+offered = record { time = 5; id = record { a = 0; b = 0; c = 0; d = 3 }; size = 300; preheader = 1; source = Local; verdict = Valid 500 }
+
+no-capacity : admitSpec 500 settings none offered 500 [] [] ≡ record { outcome = done; tables = none; written = [] }
+unfolding admitSpec contested seated settled joined newcomer loses crowded feeOf idsTo
+no-capacity = refl

@@ -18,8 +18,10 @@ use pool::remove_all;
 use types::Counts;
 use types::MempoolConfig;
 use types::ProcessingOutcome;
+use types::Source;
 use types::Submission;
 use weight::fee_per_factor;
+use words::sums::saturating_add;
 ghost use mathlib.Core.Path.{_≡_};
 ghost use mathlib.Core.Bool.{false};
 ghost use Prim.Native.Nat.{_+_, _≤_};
@@ -33,9 +35,15 @@ ghost use Rattle.boxes.specs.Records.{index, conflicts};
 ghost use Rattle.boxes.specs.Layout.{boxesOf};
 ghost use Rattle.boxes.specs.Flat.{countOf, idsTo, idsOf};
 ghost use Rattle.pool.specs.Pool.{Room, tablesOf};
-ghost use Rattle.admit.specs.Admit.{costOf, newcomer, joined, seated, contested, admitSpec};
+ghost use Rattle.admit.specs.Admit.{costOf, chargedSum, newcomer, joined, seated, contested, admitSpec};
 ghost use Rattle.admit.specs.Evictions.{Evicts};
 ghost use Rattle.admit.specs.Admission.{Leaves};
+
+// More inputs were refused with 7.
+const MAX_TX_INPUTS: usize = 5000;
+
+// Words for one conflict for each input.
+const CONFLICT_WORDS: usize = MAX_TX_INPUTS * 4;
 
 // What an admission leaves beside the tables and the answer buffer.
 pub struct Admission {
@@ -48,6 +56,16 @@ pub fn cost_of(verdict: u64, size: u64) -> u64
     ensures { λ r. ⌜ r ≡ costOf verdict size ⌝ }
 {
     if verdict < size { size } else { verdict }
+}
+
+// The block sum after a submission that costs so much: only a remote one is charged.
+pub fn charged_sum(source: Source, sum: u64, cost: u64) -> u64
+    ensures { λ r. ⌜ r ≡ chargedSum source sum cost ⌝ }
+{
+    match source {
+        Source::Local => sum,
+        Source::Peer(_) => saturating_add(sum, cost),
+    }
 }
 
 // The newcomer's entry.
@@ -147,7 +165,7 @@ fn seat(
     }
 }
 
-// 29, or the transactions that spend one of the newcomer's boxes go. The list has room for one for each of 5,000 inputs.
+// 29, or the transactions that spend one of the newcomer's boxes go.
 fn contest(
     entries: &mut [u64],
     boxes: &mut [u64],
@@ -162,7 +180,7 @@ fn contest(
     requires { ⌜ countOf 5 (now inputs) ≤ 5000 ⌝ }
     ensures { λ r. ⌜ Leaves (now (entries .exit)) (now (boxes .exit)) r (now (answer .entry)) (now (answer .exit)) (contested 500 capacity (entryOf e) (now (inputs .entry)) (now (outputs .entry)) (conflicts (index false (boxesOf (now (boxes .entry)) (counts .records))) (idsOf 5 (now (inputs .entry)))) (tablesOf (now (entries .entry)) (now (boxes .entry)) counts)) ⌝ }
 {
-    let mut list = [0u64; 20000];
+    let mut list = [0u64; CONFLICT_WORDS];
     let k = conflicts(boxes, counts.records, inputs, 5, &mut list);
     if is_loser(entries, counts.pooled, e.base, &list, k) {
         write_ids(answer, 0, &list, k);
@@ -184,4 +202,94 @@ fn contest(
         k,
         answer,
     )
+}
+
+// 10, or the newcomer that pays this fee contests its boxes. Most have none that is spent, and no list is cleared for them.
+fn offer(
+    entries: &mut [u64],
+    boxes: &mut [u64],
+    counts: Counts,
+    config: MempoolConfig,
+    sub: Submission,
+    cost: u64,
+    fee: u64,
+    inputs: &[u64],
+    outputs: &[u64],
+    answer: &mut [u64],
+) -> Admission
+    requires { ⌜ Room (now entries) (now boxes) counts (countOf 5 (now inputs) + countOf 7 (now outputs)) ⌝ }
+    requires { ⌜ (countOf 5 (now inputs) ≤ 5000) × (fee ≡ feeOf (now outputs)) ⌝ }
+    ensures { λ r. ⌜ Leaves (now (entries .exit)) (now (boxes .exit)) r (now (answer .entry)) (now (answer .exit)) (admitSpec 500 config (tablesOf (now (entries .entry)) (now (boxes .entry)) counts) sub cost (now (inputs .entry)) (now (outputs .entry))) ⌝ }
+{
+    if fee < config.min_fee {
+        return Admission {
+            counts,
+            outcome: ProcessingOutcome::Declined(10),
+        };
+    }
+    let strategy = config.fee_strategy;
+    let base = fee_per_factor(fee, sub.size, cost_of(cost, sub.size), strategy);
+    let e = newcomer(sub, cost, base, inputs, outputs);
+    if is_spent(boxes, counts.records, inputs) {
+        return contest(
+            entries,
+            boxes,
+            counts,
+            e,
+            inputs,
+            outputs,
+            config.capacity,
+            answer,
+        );
+    }
+    let nobody = [0u64; 4];
+    seat(
+        entries,
+        boxes,
+        counts,
+        e,
+        inputs,
+        outputs,
+        config.capacity,
+        &nobody,
+        0,
+        answer,
+    )
+}
+
+// What follows the tests of a submission whose valid verdict costs so much.
+pub fn admit(
+    entries: &mut [u64],
+    boxes: &mut [u64],
+    counts: Counts,
+    config: MempoolConfig,
+    sub: Submission,
+    cost: u64,
+    inputs: &[u64],
+    outputs: &[u64],
+    answer: &mut [u64],
+) -> Admission
+    requires { ⌜ Room (now entries) (now boxes) counts (countOf 5 (now inputs) + countOf 7 (now outputs)) ⌝ }
+    requires { ⌜ (countOf 5 (now inputs) ≤ 5000) × (feeOf (now outputs) ≤ cap) ⌝ }
+    ensures { λ r. ⌜ Leaves (now (entries .exit)) (now (boxes .exit)) r (now (answer .entry)) (now (answer .exit)) (admitSpec 500 config (tablesOf (now (entries .entry)) (now (boxes .entry)) counts) sub cost (now (inputs .entry)) (now (outputs .entry))) ⌝ }
+{
+    match extract_fee(outputs) {
+        FeeSum::Sum(fee) => offer(
+            entries,
+            boxes,
+            counts,
+            config,
+            sub,
+            cost,
+            fee,
+            inputs,
+            outputs,
+            answer,
+        ),
+        // never here: such a sum has been refused with 4
+        FeeSum::Beyond => Admission {
+            counts,
+            outcome: ProcessingOutcome::Declined(4),
+        },
+    }
 }
