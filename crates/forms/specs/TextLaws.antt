@@ -244,6 +244,15 @@ spells-of d g (sub i m) s t r =
     let p = spells-of d false m (r .3) t (r .8) in
     (spaces (r .0) ++ (40 ∷ (q .0 ++ p .0)), r .4 ∙ ap (λ (l : List ℕ). spaces (r .0) ++ (40 ∷ l)) (q .1 ∙ ap (λ (l : List ℕ). q .0 ++ l) (p .1)) ∙ sym (append-assoc (spaces (r .0)) (40 ∷ (q .0 ++ p .0)) t ∙ ap (λ (l : List ℕ). spaces (r .0) ++ (40 ∷ l)) (append-assoc (q .0) (p .0) t)), (r .0, r .1, q .0, p .0, refl, r .5, r .6, q .2, p .2))
 
+-- THEOREM: a line says one thing
+pub line-once : (l : List ℕ) (m n : Members) → Line m l → Line n l → m ≡ n
+unfolding Line
+line-once l m n p q =
+    let e = split-once isSpace (spaces (p .0)) (spaces (q .0)) (all-spaces (p .0)) (all-spaces (q .0)) (s40 (p .2 ++ spaces (p .1))) (s40 (q .2 ++ spaces (q .1))) (sym (p .3) ∙ q .3) in
+    let r = reads-of 7 true m (p .2) (spaces (p .1)) (p .5) in
+    let u = reads-of 7 true n (q .2) (spaces (q .1)) (q .5) in
+    once 7 true (p .2 ++ spaces (p .1)) m n (spaces (p .1)) (spaces (q .1)) r (subst (λ (z : List ℕ). Reads 7 true z n (spaces (q .1))) (sym (tails (e .1))) u) .0
+
 -- ---- runs at places of a line
 
 module _ (p : ℕ → Bool) (l : List ℕ) (i : ℕ) where

@@ -9,10 +9,10 @@ use lib.Dec.{leb}
 use Rattle.words.specs.Lists.{pick}
 use Rattle.words.specs.Ids.{idWords}
 use Rattle.forms.specs.Text.{Members, none, word, sub}
-use Rattle.forms.specs.Nums.{over}
+use Rattle.forms.specs.Nums.{over, idRead, isHex, isDigits, more, digitOf, idOfDigits}
 use Rattle.lines.specs.declared.items.Records.{Records}
 use Rattle.lines.specs.declared.items.Records.the-variants.{Boxes, Flags, Inputs, Heights, Outputs}
-use Rattle.lines.specs.Fields.{Rest, gone, here, wordOf, listOf, pastList, ended, Kind, value, past, ids, choices, number32, number64, Stands}
+use Rattle.lines.specs.Fields.{Rest, gone, here, wordOf, pastWord, same, listOf, pastList, ended, Kind, value, past, ids, choices, number32, number64, Stands}
 
 -- one record: its words, and whether the member that stands next is one
 pub record Item : Type 0 where
@@ -153,3 +153,9 @@ pub record ListAt (it : Item) (l : List ℕ) (at d : ℕ) (x y : List ℕ) (coun
   pub inside : next ≤ length l
   pub is : (t : List ℕ) (s : Rest) → Stands l d t at false s → (count ≡ countOf it (length x) (listOf s)) × Stands l d t next false (pastItems it (length x) s)
   pub wrote : (t : List ℕ) (s : Rest) → Stands l d t at false s → fits it (length x) (listOf s) ≡ true → y ≡ over 0 (wordsIn it (listOf s)) x
+
+-- on an edge: `((1 set))` is five words, and `((1 set) 2)` is no list of inputs
+item-edges : (wordsOf inputs (sub (word (49 ∷ []) (word wSet none)) none) ≡ 0 ∷ 0 ∷ 0 ∷ 1 ∷ 1 ∷ []) × (allOk inputs (sub (word (49 ∷ []) (word wSet none)) none) ≡ true)
+    × (allOk inputs (sub (word (49 ∷ []) (word wSet none)) (word (50 ∷ []) none)) ≡ false)
+unfolding wordsOf allOk inputs inputWords isInput listOf wordOf pastWord ended value past ids choices same idRead isHex isDigits more digitOf idOfDigits
+item-edges = (refl, refl, refl)

@@ -3,3 +3,6 @@ pub mod FieldLaws
 pub mod Items
 pub mod ItemLaws
 pub mod Forms
+pub mod FormLaws
+pub mod Answers
+pub mod Room

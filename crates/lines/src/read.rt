@@ -1,14 +1,26 @@
 // The forms of poolrun, each read from behind its first word. A form's fields are read one behind the other, and it is that form exactly if its list
 // then ends.
+use crate::fields::Optional;
+use crate::fields::Verdict;
 use crate::fields::choice;
 use crate::fields::id;
+use crate::fields::number_or;
 use crate::fields::number32;
 use crate::fields::number64;
+use crate::fields::same_word;
+use crate::fields::verdict_field;
+use crate::items::Records;
+use crate::items::list_field;
+use forms::text::Past;
+use forms::text::Span;
 use forms::text::end_here;
+use forms::text::read_line;
+use forms::text::word_here;
 use words::ids::Id;
 ghost use Prim.Native.Nat.{_≤_};
 ghost use lib.ListN.{length};
-ghost use Rattle.lines.specs.Forms.{FormAt, poolOf, invalidateOf, openOf, topOf, containsOf, spendingOf, feeOf, waitOf, histogramOf, plainOf};
+ghost use Rattle.forms.specs.Text.{part};
+ghost use Rattle.lines.specs.Forms.{FormAt, poolOf, invalidateOf, openOf, topOf, containsOf, spendingOf, feeOf, waitOf, histogramOf, plainOf, ListsAt, txOf, returnOf, answerOf, rebroadcastOf, measureOf, queryOf, changeOf, txOne, txTwo, returnOne, returnTwo, answerOne, rebroadcastOne, AnswerAt, ReadAt, worded, oneOf, twoOf};
 
 // The settings, in the order of `MempoolConfig`.
 pub struct PoolForm {
@@ -24,13 +36,46 @@ pub struct PoolForm {
     pub peer_limit: u64,
 }
 
+// A submission. `inputs` and `outputs` count the words that its lists have in the two lent slices.
+pub struct TxForm {
+    pub time: u64,
+    pub id: Id,
+    // the number of a peer, or absent for local
+    pub peer: Optional,
+    pub size: u64,
+    pub preheader: u32,
+    pub inputs: usize,
+    pub outputs: usize,
+    pub verdict: Verdict,
+}
+
+// A return. `inputs` and `outputs` count words, as in a submission.
+pub struct ReturnForm {
+    pub id: Id,
+    pub fee: u64,
+    pub size: u64,
+    pub cost: u32,
+    pub measured: Optional,
+    pub created: u64,
+    pub checked: u64,
+    pub peer: Optional,
+    pub inputs: usize,
+    pub outputs: usize,
+}
+
 pub enum Form {
     Pool(PoolForm),
+    Tx(TxForm),
+    Return(ReturnForm),
     // time, id
     Invalidate(u64, Id),
     // time, limit, preheader
     Open(u64, u64, u32),
     Next,
+    // words of flags, verdict
+    Answer(usize, Verdict),
+    // words of box ids
+    Rebroadcast(usize),
     List,
     // limit
     Top(u64),
@@ -74,7 +119,7 @@ fn invalidate(line: &[u8], at: usize) -> Form
     Form::Unread
 }
 
-fn open(line: &[u8], at: usize) -> Form
+fn open_pass(line: &[u8], at: usize) -> Form
     requires { ⌜ at ≤ length (now line) ⌝ }
     ensures { λ r. ⌜ FormAt openOf (now (line .entry)) at r ⌝ }
 {
@@ -188,4 +233,191 @@ fn pool(line: &[u8], at: usize) -> Form
         });
     }
     Form::Unread
+}
+
+fn tx(line: &[u8], at: usize, first: &mut [u64], second: &mut [u64]) -> Form
+    requires { ⌜ at ≤ length (now line) ⌝ }
+    ensures { λ r. ⌜ ListsAt txOf (now (line .entry)) at (now (first .entry)) (now (first .exit)) (now (second .entry)) (now (second .exit)) txOne (txTwo (length (now (first .entry)))) r ⌝ }
+{
+    let time = number64(line, at);
+    let x = id(line, time.next, false);
+    let peer = number_or(line, x.next, b"local");
+    let size = number64(line, peer.next);
+    let preheader = number32(line, size.next);
+    let inputs = list_field(line, preheader.next, 7, Records::Inputs, first);
+    let outputs = list_field(line, inputs.next, 7, Records::Outputs, second);
+    let verdict = verdict_field(line, outputs.next, 7);
+    let id_value = x.value;
+    let peer_value = peer.value;
+    let verdict_value = verdict.value;
+    if end_here(line, verdict.next, false) {
+        return Form::Tx(TxForm {
+            time: time.value,
+            id: id_value,
+            peer: peer_value,
+            size: size.value,
+            preheader: preheader.value,
+            inputs: inputs.words,
+            outputs: outputs.words,
+            verdict: verdict_value,
+        });
+    }
+    Form::Unread
+}
+
+fn take_back(line: &[u8], at: usize, first: &mut [u64], second: &mut [u64]) -> Form
+    requires { ⌜ at ≤ length (now line) ⌝ }
+    ensures { λ r. ⌜ ListsAt returnOf (now (line .entry)) at (now (first .entry)) (now (first .exit)) (now (second .entry)) (now (second .exit)) returnOne (returnTwo (length (now (first .entry)))) r ⌝ }
+{
+    let x = id(line, at, false);
+    let fee = number64(line, x.next);
+    let size = number64(line, fee.next);
+    let cost = number32(line, size.next);
+    let measured = number_or(line, cost.next, b"none");
+    let created = number64(line, measured.next);
+    let checked = number64(line, created.next);
+    let peer = number_or(line, checked.next, b"local");
+    let inputs = list_field(line, peer.next, 7, Records::Boxes, first);
+    let outputs = list_field(line, inputs.next, 7, Records::Heights, second);
+    let id_value = x.value;
+    let measured_value = measured.value;
+    let peer_value = peer.value;
+    if end_here(line, outputs.next, false) {
+        return Form::Return(ReturnForm {
+            id: id_value,
+            fee: fee.value,
+            size: size.value,
+            cost: cost.value,
+            measured: measured_value,
+            created: created.value,
+            checked: checked.value,
+            peer: peer_value,
+            inputs: inputs.words,
+            outputs: outputs.words,
+        });
+    }
+    Form::Unread
+}
+
+fn answer(line: &[u8], at: usize, first: &mut [u64]) -> Form
+    requires { ⌜ at ≤ length (now line) ⌝ }
+    ensures { λ r. ⌜ AnswerAt answerOf (now (line .entry)) at (now (first .entry)) (now (first .exit)) answerOne r ⌝ }
+{
+    let flags = list_field(line, at, 7, Records::Flags, first);
+    let verdict = verdict_field(line, flags.next, 7);
+    let value = verdict.value;
+    if end_here(line, verdict.next, false) {
+        return Form::Answer(flags.words, value);
+    }
+    Form::Unread
+}
+
+fn rebroadcast(line: &[u8], at: usize, first: &mut [u64]) -> Form
+    requires { ⌜ at ≤ length (now line) ⌝ }
+    ensures { λ r. ⌜ AnswerAt rebroadcastOf (now (line .entry)) at (now (first .entry)) (now (first .exit)) rebroadcastOne r ⌝ }
+{
+    let boxes = list_field(line, at, 7, Records::Boxes, first);
+    if end_here(line, boxes.next, false) {
+        return Form::Rebroadcast(boxes.words);
+    }
+    Form::Unread
+}
+
+// The queries about fees and waits, and what poolrun keeps.
+fn measure(line: &[u8], start: usize, end: usize) -> Form
+    requires { ⌜ (start ≤ end) × (end ≤ length (now line)) ⌝ }
+    ensures { λ r. ⌜ FormAt (measureOf (part start end (now (line .entry)))) (now (line .entry)) end r ⌝ }
+{
+    if same_word(line, start, end, b"fee") {
+        return fee(line, end);
+    }
+    if same_word(line, start, end, b"wait") {
+        return wait(line, end);
+    }
+    if same_word(line, start, end, b"histogram") {
+        return histogram(line, end);
+    }
+    if same_word(line, start, end, b"charges") {
+        return plain(line, end, Form::Charges);
+    }
+    if same_word(line, start, end, b"written") {
+        return plain(line, end, Form::Written);
+    }
+    Form::Unread
+}
+
+// The other queries.
+fn query(line: &[u8], start: usize, end: usize) -> Form
+    requires { ⌜ (start ≤ end) × (end ≤ length (now line)) ⌝ }
+    ensures { λ r. ⌜ FormAt (queryOf (part start end (now (line .entry)))) (now (line .entry)) end r ⌝ }
+{
+    if same_word(line, start, end, b"list") {
+        return plain(line, end, Form::List);
+    }
+    if same_word(line, start, end, b"top") {
+        return top(line, end);
+    }
+    if same_word(line, start, end, b"len") {
+        return plain(line, end, Form::Len);
+    }
+    if same_word(line, start, end, b"contains") {
+        return contains(line, end);
+    }
+    if same_word(line, start, end, b"spending") {
+        return spending(line, end);
+    }
+    measure(line, start, end)
+}
+
+// The changing calls without lists.
+fn change(line: &[u8], start: usize, end: usize) -> Form
+    requires { ⌜ (start ≤ end) × (end ≤ length (now line)) ⌝ }
+    ensures { λ r. ⌜ FormAt (changeOf (part start end (now (line .entry)))) (now (line .entry)) end r ⌝ }
+{
+    if same_word(line, start, end, b"pool") {
+        return pool(line, end);
+    }
+    if same_word(line, start, end, b"invalidate") {
+        return invalidate(line, end);
+    }
+    if same_word(line, start, end, b"open") {
+        return open_pass(line, end);
+    }
+    if same_word(line, start, end, b"next") {
+        return plain(line, end, Form::Next);
+    }
+    query(line, start, end)
+}
+
+// The form whose first word stands from `start` up to `end`.
+fn worded(line: &[u8], start: usize, end: usize, first: &mut [u64], second: &mut [u64]) -> Form
+    requires { ⌜ (start ≤ end) × (end ≤ length (now line)) ⌝ }
+    ensures { λ r. ⌜ ListsAt (worded (part start end (now (line .entry)))) (now (line .entry)) end (now (first .entry)) (now (first .exit)) (now (second .entry)) (now (second .exit)) (oneOf (part start end (now (line .entry)))) (twoOf (part start end (now (line .entry))) (length (now (first .entry)))) r ⌝ }
+{
+    if same_word(line, start, end, b"tx") {
+        return tx(line, end, first, second);
+    }
+    if same_word(line, start, end, b"return") {
+        return take_back(line, end, first, second);
+    }
+    if same_word(line, start, end, b"answer") {
+        return answer(line, end, first);
+    }
+    if same_word(line, start, end, b"rebroadcast") {
+        return rebroadcast(line, end, first);
+    }
+    change(line, start, end)
+}
+
+// Reads a line. The words of its form's lists go into the two lent slices: inputs, flags or box ids into the first, outputs into the second.
+pub fn read_form(line: &[u8], first: &mut [u64], second: &mut [u64]) -> Form
+    ensures { λ r. ⌜ ReadAt (now (line .entry)) (now (first .entry)) (now (first .exit)) (now (second .entry)) (now (second .exit)) r ⌝ }
+{
+    let Past::At(a) = read_line(line) else {
+        return Form::Unread;
+    };
+    let Span::Is(start, end) = word_here(line, a, true) else {
+        return Form::Unread;
+    };
+    worded(line, start, end, first, second)
 }

@@ -1,11 +1,11 @@
--- `read::open` meets its contract: field by field, then the end.
+-- `read::open_pass` meets its contract: field by field, then the end.
 use mathlib.Core.Bool.{false}
 use Rattle.lines.specs.FieldLaws as W
 use Rattle.lines.specs.Forms as F
 use Rattle.lines.specs.declared.read.Form.the-variants.{Open}
 use borrow.Author.Needs.{needs}
-use Rattle.lines.proofs.read.open.Statement.{statement}
-use Rattle.lines.proofs.read.open.Tie as tie
+use Rattle.lines.proofs.read.open_pass.Statement.{statement}
+use Rattle.lines.proofs.read.open_pass.Tie as tie
 
 number64-requires : tie.Need-number64-requires
 number64-requires c κs = search needs
@@ -35,8 +35,8 @@ returns-2 c = λ d t s h.
     let j = c .before .before .number32 .ensures .is d t _ (b .1) in
     F.is-not _ _ _ (W.stands-end (c .before .before .before .before .before .before .args .line .now) _ false d t _ (c .before .end-here .ensures) _ (j .1)) (c .if1 .left)
 
-pub open-spec : {M : Type 1} → statement M
-open-spec =
+pub open-pass-spec : {M : Type 1} → statement M
+open-pass-spec =
     tie.close
     (tie.spec
     number64-requires
