@@ -9,11 +9,16 @@ use Rattle.entries.specs.Entries.{ahead}
 use Rattle.entries.specs.declared.fields.ValidationCost.the-variants.{Unmeasured}
 use Rattle.boxes.specs.Records.{parents}
 use Rattle.pool.specs.Pool.{Tables, insertTx, credits}
+use Rattle.pool.specs.Ok.{Ok, ok-credits}
 use Rattle.family.specs.Chains.{walked}
 
 -- transaction k credits c to each that its walk of b visits at most reaches
 abbrev pub propagated : ℕ → ℕ → ℕ → Tables → Tables
 propagated b c k t = record { entries = credits c (walked (parents (t .boxes)) b k) (t .entries); boxes = t .boxes }
+
+-- a valid store stays valid
+pub ok-propagated : (b c k : ℕ) (t : Tables) → Ok t → Ok (propagated b c k t)
+ok-propagated b c k t o = ok-credits c (walked (parents (t .boxes)) b k) t o
 
 -- ---- on the edges: entries of base 10, and a newcomer of base 1, each with its id, inputs and outputs; what is compared is id and weight
 

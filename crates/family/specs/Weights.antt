@@ -149,8 +149,3 @@ credited c k (j ∷ ks) es o l = go (eqb j k) refl (credited c k ks (credit c j 
 pub credited-for-chains : (f : ℕ → List ℕ) (b new c k : ℕ) (es : List Entry) → EntriesInOrder es → Low (found keyOf k es) → over f b new ≡ []
     → found keyOf k (credits c (walked f b new) es) ≡ map (raised (count k (chains f b new b) * c)) (found keyOf k es)
 credited-for-chains f b new c k es o l h = rw (← once-for-every-chain f b new h k) (credited c k (walked f b new) es o l)
-
--- credits keep the order, each id once
-pub credits-order : (c : ℕ) (ks : List ℕ) (es : List Entry) → EntriesInOrder es → EntriesInOrder (credits c ks es)
-credits-order c [] es o = o
-credits-order c (k ∷ ks) es o = credits-order c ks (credit c k es) (credit-order c k es o)

@@ -1,3 +1,4 @@
 pub mod Pool
 pub mod Laws
 pub mod Steps
+pub mod Ok

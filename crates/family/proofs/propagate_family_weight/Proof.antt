@@ -14,7 +14,7 @@ same-length : tie.Need-same-length
 same-length c = search needs
 
 returns : tie.Need-returns
-returns c = search needs
+returns c = c .before .before .before .walk .ensures
 
 pub propagate-family-weight-spec : {M : Type 1} → statement M
 propagate-family-weight-spec =
