@@ -8,7 +8,7 @@ use native.Mathlib.Omega.{arith}
 use lib.Dec.{leb}
 use lib.ListN.{length, drop}
 use borrow.Author.Tests.{eq-eqb, ne-eqb}
-use Rattle.words.specs.Lists.{pick}
+use Rattle.words.specs.Lists.{pick, flat}
 use Rattle.words.specs.Tables.{drop-of, drop-past}
 use Rattle.words.specs.Ids.{idAt}
 use Rattle.words.specs.Sums.{cap, quotientOf}
@@ -18,7 +18,7 @@ use Rattle.entries.specs.Entries.{Entry, placeOf}
 use Rattle.entries.specs.Layout.{entryAt, entriesOf, entries}
 use Rattle.entries.specs.Laws.{at-place, no-place, place-fits}
 use Rattle.entries.specs.declared.table.Place.the-variants.{At, Nowhere}
-use Rattle.boxes.specs.Records.{Pair, lookup, flat, conflicts}
+use Rattle.boxes.specs.Records.{Pair, lookup, conflicts}
 use Rattle.boxes.specs.Flat.{idsTo, ids}
 use Rattle.admit.specs.Admit.{weightOf, weightsOf, loses}
 
