@@ -1,0 +1,4 @@
+pub mod Process
+pub mod Fits
+pub mod Charge
+pub mod Post
