@@ -1,4 +1,6 @@
 pub mod Process
+pub mod Edges
 pub mod Fits
 pub mod Charge
 pub mod Post
+pub mod Numbers

@@ -1,12 +1,10 @@
 -- What a submission leaves, as its contract says it: one record, of the words and the state at exit, against a result of the definitions.
-use Prim.Native.Nat.{ℕ, _/_, _≤_}
-use mathlib.Core.Path.{_≡_, refl, sym, ap, _∙_}
-use mathlib.Core.Bool.{Bool, true, false}
-use mathlib.Core.List.{List, []}
+use Prim.Native.Nat.{ℕ, _/_}
+use mathlib.Core.Path.{_≡_, refl}
+use mathlib.Core.List.{List}
 use native.Mathlib.Omega.{arith}
 use lib.ListN.{length}
 use borrow.Author.Tests.{eq-eqb, ne-eqb}
-use Rattle.words.specs.Lists.{pick}
 use Rattle.words.specs.Ids.{idOf}
 use Rattle.types.specs.declared.Mempool.{Mempool}
 use Rattle.types.specs.declared.Sums.{Sums}
@@ -28,7 +26,7 @@ use Rattle.checks.specs.Laws.{yes, no}
 use Rattle.admit.specs.Admit.{Admitted, costOf, admitSpec}
 use Rattle.admit.specs.Admission.{Leaves}
 use Rattle.admit.specs.declared.admission.Admission.{Admission}
-use Rattle.process.specs.Process.{World, world, Result, unchanged, Limits, standingOf, admitted, judged, unlessRefused, processed}
+use Rattle.process.specs.Process.{World, world, Result, unchanged, Limits, standingOf, admitted, judged, processed}
 use Rattle.process.specs.Fits.{Fits}
 use Rattle.process.specs.Charge.{Charged}
 use Rattle.process.specs.declared.Processed.{Processed}

@@ -1,8 +1,7 @@
 -- A submission (document 01, "A submission"), whole: what it answers and all that it leaves, as a function of the decoded store, the state and
 -- the arguments. The tests are crate checks', what follows a valid verdict is crate admit's.
 use Prim.Native.Nat.{ℕ}
-use mathlib.Core.Path.{_≡_, refl}
-use mathlib.Core.List.{List, [], _∷_}
+use mathlib.Core.List.{List, []}
 use lib.Dec.{eqb}
 use Rattle.words.specs.Lists.{pick}
 use Rattle.words.specs.Ids.{idOf}

@@ -31,6 +31,7 @@ ghost use Rattle.process.specs.Process.{standingOf, admitted, judged};
 ghost use Rattle.process.specs.Fits.{Fits, allFit};
 ghost use Rattle.process.specs.Charge.{Chargeable, Charged};
 ghost use Rattle.process.specs.Post.{worldOf, resultOf, Post};
+ghost use Rattle.process.specs.Numbers.{ofSubmission};
 
 // What the call hands back: the state, and what it answers.
 pub struct Processed {
@@ -233,6 +234,7 @@ pub fn process(
     ensures { λ r. ⌜ (Fits (now (entries .entry)) (now (boxes .entry)) (now (cache .entry)) (now (peers .entry)) mempool →
         Post mempool r (now (entries .exit)) (now (boxes .exit)) (now (cache .exit)) (now (peers .exit)) (now (answer .entry)) (now (answer .exit))
         (resultOf (now (entries .entry)) (now (boxes .entry)) (now (cache .entry)) (now (peers .entry)) (now (answer .entry)) mempool sub (now (inputs .entry)) (now (outputs .entry)))) ⌝ }
+    ensures { λ r. ⌜ ofSubmission (processedOf (r .outcome)) ≡ true ⌝ }
 {
     if !fits_all(entries, boxes, cache, peers, mempool) {
         return Processed {
