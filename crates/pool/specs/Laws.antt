@@ -16,7 +16,6 @@ use Rattle.words.specs.Ids.{idAt}
 use Rattle.types.specs.declared.Counts.{Counts}
 use Rattle.entries.specs.Entries.{Entry, pooled}
 use Rattle.entries.specs.Layout.{entriesOf, entriesRoom, entries}
-use Rattle.entries.specs.Laws.{length-without}
 use Rattle.entries.specs.Layout.{ok-room as room-entries, room-ok as entries-room}
 use Rattle.boxes.specs.Layout.{boxesOf, boxesRoom, boxes}
 use Rattle.boxes.specs.Layout.{room-ok as room-boxes, ok-room as boxes-room}
@@ -78,18 +77,18 @@ away-none k (e ∷ es) h = go (eqb (e .id) k) (away-none k es) h
     go true ih q = let z : _≡_ {A = ℕ} 0 1 = cc in absurd (omega arith)
     go false ih q = ap (λ (r : List Entry). e ∷ r) (ih q)
 
-module _ (k : ℕ) (es : List Entry) where
-  pub as-many : length (away k es) ≡ length es → pooled k es ≡ false
-  as-many h = go (pooled k es) (length-without k es)
+module _ (t : Bool) (s n : ℕ) (e : s + pick t 1 0 ≡ n) where
+  pub as-many : s ≡ n → t ≡ false
+  as-many h = go t e
     where
-      go : (t : Bool) → length (away k es) + pick t 1 0 ≡ length es → t ≡ false
+      go : (t : Bool) → s + pick t 1 0 ≡ n → t ≡ false
       go true q = absurd (omega arith)
       go false q = refl
 
-  pub fewer : (length (away k es) ≡ length es → ⊥) → pooled k es ≡ true
-  fewer h = go (pooled k es) (length-without k es)
+  pub fewer : (s ≡ n → ⊥) → t ≡ true
+  fewer h = go t e
     where
-      go : (t : Bool) → length (away k es) + pick t 1 0 ≡ length es → t ≡ true
+      go : (t : Bool) → s + pick t 1 0 ≡ n → t ≡ true
       go true q = refl
       go false q = absurd (h (omega arith))
 

@@ -1,16 +1,16 @@
 -- What the pool's functions leave, from what their calls leave in each table.
 use Prim.Native.Nat.{ℕ, _+_, _-_, _<_}
-use mathlib.Core.Path.{_≡_, refl, sym, ap, _∙_}
+use mathlib.Core.Path.{_≡_, refl, ap, _∙_}
 use mathlib.Core.Bool.{false}
 use mathlib.Core.List.{List}
 use native.Mathlib.Omega.{arith}
-use lib.ListN.{length}
+use Rattle.words.specs.Lists.{pick}
 use Rattle.words.specs.Find.{without}
 use Rattle.types.specs.declared.Counts.{Counts}
 use Rattle.entries.specs.Entries.{Entry, insertBy, pooled}
-use Rattle.entries.specs.Layout.{entriesOf, entries, ok-fewer}
+use Rattle.entries.specs.Layout.{entriesOf, ok-fewer}
 use Rattle.entries.specs.Layout.{Left as Rows}
-use Rattle.entries.specs.Laws.{but-lowest, left-count}
+use Rattle.entries.specs.Laws.{but-lowest, removed-count}
 use Rattle.boxes.specs.Records.{BoxRec, dropOwner}
 use Rattle.boxes.specs.Layout.{boxesOf, ok-still}
 use Rattle.boxes.specs.Posts.{Entered, Dropped}
@@ -46,8 +46,8 @@ module _ (e b : List ℕ) (c : Counts) where
 
   -- a removal has left s entries: as many as there were, or fewer
   module _ (m : List ℕ) (k s : ℕ) (f : PoolFits e b c) (p : Rows e m s (without (λ e. e .id) k (entriesOf e (c .pooled)))) where
-    left : length (without (λ e. e .id) k (entriesOf e (c .pooled))) ≡ s
-    left = sym (left-count e m s _ p)
+    said : s + pick (pooled k (entriesOf e (c .pooled))) 1 0 ≡ c .pooled
+    said = removed-count e m (c .pooled) s k p
 
     pub removed-nothing : s ≡ c .pooled → Left m b c (removeTx k (tablesOf e b c))
     removed-nothing h =
@@ -57,11 +57,11 @@ module _ (e b : List ℕ) (c : Counts) where
         }
       where
         none : pooled k (entriesOf e (c .pooled)) ≡ false
-        none = as-many k (entriesOf e (c .pooled)) (left ∙ h ∙ sym (entries .len e (c .pooled)))
+        none = as-many _ s (c .pooled) said h
 
     pub removed-both : (n : List ℕ) (r : ℕ) → (s ≡ c .pooled → ⊥) → Dropped b n (c .records) r k → Left m n (counts s r) (removeTx k (tablesOf e b c))
     removed-both n r h q =
         record {
           fits = record { entries = p .ok; boxes = ok-still b n r (c .records) (f .boxes) (q .kept) (q .fewer) };
-          tables = rw (fewer k (entriesOf e (c .pooled)) (λ z. h (sym left ∙ z ∙ entries .len e (c .pooled)))) (both (p .rows) (q .rows));
+          tables = rw (fewer (pooled k (entriesOf e (c .pooled))) s (c .pooled) said h) (both (p .rows) (q .rows));
         }
