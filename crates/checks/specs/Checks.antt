@@ -2,9 +2,8 @@
 -- Each definition gives the number of the first test that fails, and 0 where none does. A submission `a` brings two lists of words beside
 -- it: `ins`, 5 words an input, and `outs`, 7 words an output.
 use Prim.Native.Nat.{ℕ, _+_}
-use mathlib.Core.Path.{_≡_, refl}
 use mathlib.Core.Bool.{Bool, true, false, not, _&&_}
-use mathlib.Core.List.{List, [], _∷_}
+use mathlib.Core.List.{List}
 use lib.Dec.{eqb, leb, ltb}
 use Rattle.words.specs.Lists.{pick}
 use Rattle.words.specs.Sums.{cap}

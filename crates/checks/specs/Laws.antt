@@ -1,4 +1,4 @@
--- Laws of the tests: how a chain of them is answered, and what follows where none fails.
+-- Laws of the tests: how a chain of them is answered, and what the code's tests say where they are not word for word the definitions'.
 use Prim.Native.Nat.{ℕ, _+_, _≤_, _<_}
 use mathlib.Core.Path.{_≡_, refl, sym, ap, _∙_}
 use mathlib.Core.Bool.{Bool, true, false, not, _&&_}

@@ -1,10 +1,10 @@
 -- What a submission that passed every test is known to be: what the steps after the tests rest on.
 use Prim.Native.Nat.{ℕ, _+_, _≤_, _<_}
 use mathlib.Core.Path.{_≡_, refl, sym, ap, _∙_}
-use mathlib.Core.Bool.{Bool, true, false, not, _&&_}
+use mathlib.Core.Bool.{Bool, true, false, _&&_}
 use mathlib.Core.List.{List}
 use native.Mathlib.Omega.{arith}
-use lib.Dec.{T, eqb, leb, ltb, lit<}
+use lib.Dec.{T, eqb, ltb, lit<}
 use borrow.Author.Tests.{ltb-false, leb-false, eqb-true, eqb-false, not-false, le-ltb}
 use Rattle.words.specs.Lists.{pick}
 use Rattle.words.specs.Sums.{cap}
@@ -12,9 +12,9 @@ use Rattle.words.specs.Ids.{idOf}
 use Rattle.types.specs.declared.Mempool.{Mempool}
 use Rattle.types.specs.declared.Submission.{Submission}
 use Rattle.types.specs.declared.Verdict.{Verdict}
-use Rattle.types.specs.declared.Verdict.the-variants.{Valid, Invalid, Absent}
+use Rattle.types.specs.declared.Verdict.the-variants.{Valid}
 use Rattle.arguments.specs.Arguments.{whole, records, feeOf, feeSum}
-use Rattle.arguments.specs.declared.FeeSum.the-variants.{Sum, Beyond}
+use Rattle.arguments.specs.declared.FeeSum.the-variants.{Sum}
 use Rattle.expiring_cache.specs.Cache.{Held, held}
 use Rattle.peers.specs.Peers.{atLimit, noneFree}
 use Rattle.peers.specs.declared.Standing.{Standing}
@@ -32,7 +32,7 @@ pub record Welcome (st : Mempool) (at : Standing) : Type 0 where
   pub peer : atLimit (st .config .«cost_per_peer_per_block») at ≡ false
   pub place : noneFree 256 (st .sums .peers) at ≡ false
 
--- of words e and b of the tables; `most` inputs are allowed, and the answer has room for `room` ids
+-- e and b are the words of both tables; `most` inputs are allowed, and the answer has room for `room` ids
 pub record Passed (most : ℕ) (e b : List ℕ) (st : Mempool) (room : ℕ) (at : Standing) (a : Submission) (ins outs : List ℕ) : Type 0 where
   pub closed : st .pass .open ≡ false
   pub inputs-whole : whole 5 ins ≡ true

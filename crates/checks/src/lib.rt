@@ -27,9 +27,9 @@ ghost use Rattle.boxes.specs.Layout.{boxesRoom};
 ghost use Rattle.pool.specs.Pool.{PoolFits, tablesOf, noRoom};
 ghost use Rattle.checks.specs.Checks.{dear, remote, callRefusal, peerRefusal, stateRefusal, listRefusal, refusalOf, Fits};
 
-// The greatest size, and the greatest cost of a verdict.
+// The greatest size.
 const MAX_TX_SIZE: u64 = 98304;
-
+// The greatest cost of a valid verdict: 32 bits.
 const MAX_COST: u64 = 4294967295;
 // How many inputs are allowed, so that lookups stay cheap.
 const MAX_TX_INPUTS: usize = 5000;
