@@ -4,5 +4,4 @@ pub mod Items
 pub mod ItemLaws
 pub mod Forms
 pub mod FormLaws
-pub mod Answers
 pub mod Room

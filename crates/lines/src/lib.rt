@@ -1,5 +1,4 @@
-// The forms of poolrun: lines read into arguments, answers printed.
+// The forms of poolrun: lines read into arguments.
 pub mod fields;
 pub mod items;
-pub mod print;
 pub mod read;
