@@ -2,7 +2,7 @@
 use Prim.Native.Nat.{ℕ, suc, _+_, _≤_, _<_}
 use mathlib.Core.Path.{_≡_, refl, sym, ap, subst, _∙_}
 use mathlib.Core.Bool.{Bool, true, false}
-use mathlib.Core.List.{List, [], _∷_, _++_}
+use mathlib.Core.List.{List, [], _∷_}
 use native.Mathlib.Nat.{zero-add}
 use native.Mathlib.Omega.{arith}
 use lib.Dec.{eqb, ltb}
@@ -20,17 +20,16 @@ use Rattle.types.specs.declared.ProcessingOutcome.{ProcessingOutcome}
 use Rattle.types.specs.declared.ProcessingOutcome.the-variants.{Declined, DoubleSpendLoser}
 use Rattle.weight.specs.Weight.{feePerFactor}
 use Rattle.arguments.specs.Arguments.{feeOf, feeSum}
-use Rattle.arguments.specs.declared.FeeSum.{FeeSum}
 use Rattle.arguments.specs.declared.FeeSum.the-variants.{Sum, Beyond}
 use Rattle.entries.specs.Entries.{Entry, pooled}
-use Rattle.entries.specs.Layout.{entriesOf, entries}
+use Rattle.entries.specs.Layout.{entries}
 use Rattle.entries.specs.Layout.{ok-still as entries-still, ok-fewer as entries-fewer}
 use Rattle.entries.specs.Laws.{length-without}
 use Rattle.boxes.specs.Records.{dropOwner, index, conflicts}
 use Rattle.boxes.specs.Flat.{idsTo, idsOf, ids}
-use Rattle.boxes.specs.Layout.{boxesOf, boxes}
+use Rattle.boxes.specs.Layout.{boxes}
 use Rattle.boxes.specs.Layout.{ok-still as boxes-still}
-use Rattle.pool.specs.Pool.{Tables, tablesOf, PoolFits, Room, Left, insertTx, removeTx, removeAll, evict, evicted}
+use Rattle.pool.specs.Pool.{Tables, tablesOf, PoolFits, Room, Left, insertTx, removeTx, removeAll, evicted}
 use Rattle.family.specs.Family.{propagated}
 use Rattle.answers.specs.Answers.{Wrote, wrote-nothing, wrote-both}
 use Rattle.admit.specs.Admit.{Admitted, costOf, loses, crowded, newcomer, joined, settled, seated, contested, admitSpec}

@@ -19,7 +19,7 @@ use Rattle.types.specs.declared.FeeStrategy.the-variants.{FeePerByte}
 use Rattle.types.specs.Outcomes.{Outcome, refused, done, wrote}
 use Rattle.weight.specs.Weight.{feePerFactor}
 use Rattle.arguments.specs.Arguments.{records, feeOf, heightKey}
-use Rattle.entries.specs.Entries.{Entry, ahead}
+use Rattle.entries.specs.Entries.{Entry}
 use Rattle.entries.specs.declared.fields.ValidationCost.the-variants.{Unmeasured, Measured}
 use Rattle.boxes.specs.Records.{index, conflicts}
 use Rattle.boxes.specs.Flat.{idsTo, idsOf}

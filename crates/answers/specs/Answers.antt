@@ -7,7 +7,7 @@ use native.Mathlib.Nat.{add-zero, add-suc, suc-add}
 use native.Mathlib.Numerals.{add-one}
 use native.Mathlib.Omega.{arith}
 use lib.ListN.{length, drop, set, length-set}
-use lib.Seq.{sets, set-out, drop-set-lt, length-sets}
+use lib.Seq.{sets, set-out, drop-set-lt}
 use Rattle.words.specs.Rows.{stored}
 use Rattle.words.specs.Ids.{num, idOf, idAt, idWords}
 use Rattle.words.specs.declared.ids.Id.{Id}

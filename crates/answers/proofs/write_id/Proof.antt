@@ -1,6 +1,5 @@
 -- `answers::write_id` meets its contract: an id stored in a place that is there (`wrote-one`), or nothing done. Assumes nothing.
 use borrow.Author.Needs.{needs}
-use mathlib.Core.Path.{refl}
 use Rattle.answers.specs.Answers.{wrote-one, wrote-nowhere}
 use Rattle.answers.proofs.write_id.Statement.{statement}
 use Rattle.answers.proofs.write_id.Tie as tie
