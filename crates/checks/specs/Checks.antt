@@ -16,13 +16,12 @@ use Rattle.types.specs.declared.Verdict.{Verdict}
 use Rattle.types.specs.declared.Verdict.the-variants.{Valid, Invalid, Absent}
 use Rattle.arguments.specs.Arguments.{whole, records, feeOf, heightKey, aheadOf}
 use Rattle.expiring_cache.specs.Cache.{Held, held}
-use Rattle.expiring_cache.specs.Layout.{CacheOk}
 use Rattle.peers.specs.Peers.{atLimit, noneFree}
 use Rattle.peers.specs.declared.Standing.{Standing}
 use Rattle.entries.specs.Entries.{Entry, pooled}
 use Rattle.boxes.specs.Records.{index}
 use Rattle.indexes.specs.Resolved.{allResolved, submitted}
-use Rattle.pool.specs.Pool.{Tables, PoolFits, noRoom}
+use Rattle.pool.specs.Pool.{Tables, noRoom}
 
 -- ---- what the call itself brings: 20, 1, 2, 3, 4, 5
 
@@ -88,9 +87,3 @@ refusalOf most E R st room t rows at a ins outs =
     first (callRefusal st room a ins outs)
     (first (stateRefusal st rows (t .entries) at a)
     (listRefusal most E R t a ins outs))
-
--- ---- where they can be made: the counts fit the words of entries, boxes and cache
-
-pub record Fits (e b k : List ℕ) (st : Mempool) : Type 0 where
-  pub pool : PoolFits e b (st .counts)
-  pub cache : CacheOk k (st .cached)

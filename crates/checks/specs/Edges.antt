@@ -5,7 +5,7 @@ use mathlib.Core.Bool.{Bool, true, false, not}
 use mathlib.Core.List.{List, [], _∷_}
 use native.Mathlib.Omega.{arith}
 use lib.Dec.{ltb}
-use Rattle.words.specs.Lists.{pick}
+use Rattle.words.specs.Lists.{pick, yes, no}
 use Rattle.words.specs.Ids.{idOf}
 use Rattle.words.specs.declared.ids.Id.{Id}
 use Rattle.types.specs.declared.FeeStrategy.the-variants.{FeePerByte}
@@ -24,7 +24,6 @@ use Rattle.boxes.specs.Records.{index}
 use Rattle.indexes.specs.Resolved.{allResolved, submitted, resolvedBy, inputAt, inputsTo}
 use Rattle.pool.specs.Pool.{Tables, noRoom}
 use Rattle.checks.specs.Checks.{callRefusal, peerRefusal, stateRefusal, listRefusal, refusalOf}
-use Rattle.checks.specs.Laws.{yes, no}
 
 abbrev zero-id : Id
 zero-id = record { a = 0; b = 0; c = 0; d = 0 }

@@ -6,20 +6,14 @@ use mathlib.Core.List.{List}
 use native.Mathlib.Omega.{arith}
 use lib.Dec.{ltb}
 use borrow.Author.Tests.{lt-ltb, le-ltb, eq-eqb, ne-eqb}
-use Rattle.words.specs.Lists.{pick}
+use Rattle.words.specs.Lists.{pick, yes, no}
 use Rattle.words.specs.Sums.{cap}
 use Rattle.arguments.specs.Arguments.{feeOf, feeSum}
 use Rattle.arguments.specs.declared.FeeSum.{FeeSum}
 use Rattle.arguments.specs.declared.FeeSum.the-variants.{Sum, Beyond}
 use Rattle.checks.specs.Checks.{first}
 
--- ---- a test that fails, and one that does not
-
-pub yes : {A : Type 0} (b : Bool) (x y : A) → b ≡ true → pick b x y ≡ x
-yes {A} b x y e = ap (λ (t : Bool). pick t x y) e
-
-pub no : {A : Type 0} (b : Bool) (x y : A) → b ≡ false → pick b x y ≡ y
-no {A} b x y e = ap (λ (t : Bool). pick t x y) e
+-- ---- a chain of tests
 
 -- a number that is answered, and one that lets the next be asked
 pub stops : (m n : ℕ) {r : ℕ} → r ≡ m → (r ≡ 0 → ⊥) → r ≡ first m n

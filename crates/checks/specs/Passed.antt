@@ -6,7 +6,7 @@ use mathlib.Core.List.{List}
 use native.Mathlib.Omega.{arith}
 use lib.Dec.{T, eqb, ltb, lit<}
 use borrow.Author.Tests.{ltb-false, leb-false, eqb-true, eqb-false, not-false, le-ltb}
-use Rattle.words.specs.Lists.{pick}
+use Rattle.words.specs.Lists.{pick, yes, no}
 use Rattle.words.specs.Sums.{cap}
 use Rattle.words.specs.Ids.{idOf}
 use Rattle.types.specs.declared.Mempool.{Mempool}
@@ -24,7 +24,6 @@ use Rattle.boxes.specs.Layout.{boxesRoom}
 use Rattle.pool.specs.Pool.{tablesOf, Room}
 use Rattle.pool.specs.Laws.{room-left}
 use Rattle.checks.specs.Checks.{dear, remote, first, callRefusal, peerRefusal, stateRefusal, listRefusal, refusalOf}
-use Rattle.checks.specs.Laws.{yes, no}
 
 -- a remote submission is below both limits, and there is a record for its peer
 pub record Welcome (st : Mempool) (at : Standing) : Type 0 where

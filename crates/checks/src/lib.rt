@@ -25,7 +25,8 @@ ghost use Rattle.expiring_cache.specs.Layout.{CacheOk, cacheOf};
 ghost use Rattle.entries.specs.Layout.{EntriesOk, entriesOf, entriesRoom};
 ghost use Rattle.boxes.specs.Layout.{boxesRoom};
 ghost use Rattle.pool.specs.Pool.{PoolFits, tablesOf, noRoom};
-ghost use Rattle.checks.specs.Checks.{dear, remote, callRefusal, peerRefusal, stateRefusal, listRefusal, refusalOf, Fits};
+ghost use Rattle.checks.specs.Checks.{dear, remote, callRefusal, peerRefusal, stateRefusal, listRefusal, refusalOf};
+ghost use Rattle.store.specs.Fits.{Testable};
 
 // The greatest size.
 const MAX_TX_SIZE: u64 = 98304;
@@ -225,7 +226,7 @@ pub fn check(
     inputs: &[u64],
     outputs: &[u64],
 ) -> u64
-    requires { ⌜ Fits (now entries) (now boxes) (now cache) mempool ⌝ }
+    requires { ⌜ Testable (now entries) (now boxes) (now cache) mempool ⌝ }
     ensures { λ r. ⌜ r ≡ refusalOf 5000 (entriesRoom (now (entries .entry))) (boxesRoom (now (boxes .entry))) mempool room (tablesOf (now (entries .entry)) (now (boxes .entry)) (mempool .counts)) (cacheOf (now (cache .entry)) (mempool .cached)) standing sub (now (inputs .entry)) (now (outputs .entry)) ⌝ }
 {
     let call = check_call(mempool, room, sub, inputs, outputs);

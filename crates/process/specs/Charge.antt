@@ -20,7 +20,7 @@ use Rattle.checks.specs.Checks.{remote}
 use Rattle.checks.specs.Passed.{Passed}
 use Rattle.admit.specs.Admit.{chargedSum}
 use Rattle.process.specs.Process.{standingOf, chargedPeers}
-use Rattle.process.specs.Fits.{Fits}
+use Rattle.store.specs.Fits.{Fits}
 
 -- the words p hold 256 records; the one that is charged stands at `at`, and where it is a peer without a record one is free
 pub record Chargeable (p : List ℕ) (s : Sums) (from : Source) (at : Standing) : Type 0 where

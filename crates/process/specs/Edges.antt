@@ -19,7 +19,8 @@ use Rattle.peers.specs.declared.PeerRecord.{PeerRecord}
 use Rattle.indexes.specs.Resolved.{inputsTo}
 use Rattle.checks.specs.Checks.{callRefusal, peerRefusal, stateRefusal, listRefusal, refusalOf}
 use Rattle.admit.specs.Admit.{chargedSum, admitSpec}
-use Rattle.process.specs.Process.{World, world, Result, unchanged, judged, processed}
+use Rattle.store.specs.World.{World, world, Result, unchanged}
+use Rattle.process.specs.Process.{judged, processed}
 
 abbrev three : Id
 three = record { a = 0; b = 0; c = 0; d = 3 }

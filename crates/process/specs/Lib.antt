@@ -1,6 +1,5 @@
 pub mod Process
 pub mod Edges
-pub mod Fits
 pub mod Charge
 pub mod Post
 pub mod Numbers

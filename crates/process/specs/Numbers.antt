@@ -26,7 +26,8 @@ use Rattle.indexes.specs.Resolved.{allResolved, submitted}
 use Rattle.pool.specs.Pool.{Tables, noRoom}
 use Rattle.checks.specs.Checks.{dear, remote, first, callRefusal, peerRefusal, stateRefusal, listRefusal, refusalOf}
 use Rattle.admit.specs.Admit.{Admitted, loses, crowded, settled, seated, contested, admitSpec}
-use Rattle.process.specs.Process.{World, Result, unchanged, Limits, judged, unlessRefused, processed}
+use Rattle.store.specs.World.{World, Result, unchanged}
+use Rattle.process.specs.Process.{Limits, judged, unlessRefused, processed}
 use Rattle.process.specs.Post.{Post}
 use Rattle.process.specs.declared.Processed.{Processed}
 

@@ -5,6 +5,7 @@ use mathlib.Core.List.{List}
 use native.Mathlib.Omega.{arith}
 use lib.ListN.{length}
 use borrow.Author.Tests.{eq-eqb, ne-eqb}
+use Rattle.words.specs.Lists.{yes, no}
 use Rattle.words.specs.Ids.{idOf}
 use Rattle.types.specs.declared.Mempool.{Mempool}
 use Rattle.types.specs.declared.Sums.{Sums}
@@ -22,18 +23,14 @@ use Rattle.boxes.specs.Layout.{boxesRoom}
 use Rattle.pool.specs.Pool.{tablesOf}
 use Rattle.answers.specs.Answers.{Wrote, wrote-nothing}
 use Rattle.checks.specs.Checks.{refusalOf}
-use Rattle.checks.specs.Laws.{yes, no}
 use Rattle.admit.specs.Admit.{Admitted, costOf, admitSpec}
 use Rattle.admit.specs.Admission.{Leaves}
 use Rattle.admit.specs.declared.admission.Admission.{Admission}
-use Rattle.process.specs.Process.{World, world, Result, unchanged, Limits, standingOf, admitted, judged, processed}
-use Rattle.process.specs.Fits.{Fits}
+use Rattle.store.specs.World.{World, worldOf, Result, unchanged}
+use Rattle.store.specs.Fits.{Fits}
+use Rattle.process.specs.Process.{Limits, standingOf, admitted, judged, processed}
 use Rattle.process.specs.Charge.{Charged}
 use Rattle.process.specs.declared.Processed.{Processed}
-
--- the store that words and state hold
-abbrev pub worldOf : List ℕ → List ℕ → List ℕ → List ℕ → Mempool → World
-worldOf e b k p st = world (tablesOf e b (st .counts)) (cacheOf k (st .cached)) (st .sums .«interblock_cost») (flatPeers p (st .sums .peers))
 
 -- the limits of tables in these words
 abbrev pub limitsOf : List ℕ → List ℕ → Limits

@@ -12,36 +12,13 @@ use Rattle.types.specs.declared.Source.the-variants.{Local, Peer}
 use Rattle.types.specs.declared.Verdict.{Verdict}
 use Rattle.types.specs.declared.Verdict.the-variants.{Valid, Invalid, Absent}
 use Rattle.types.specs.Outcomes.{Outcome, refused, needed}
-use Rattle.expiring_cache.specs.Cache.{Held, remember}
+use Rattle.expiring_cache.specs.Cache.{remember}
 use Rattle.peers.specs.Peers.{standing, chargePeer}
 use Rattle.peers.specs.declared.PeerRecord.{PeerRecord}
 use Rattle.peers.specs.declared.Standing.{Standing}
-use Rattle.pool.specs.Pool.{Tables}
+use Rattle.store.specs.World.{World, world, Result, unchanged}
 use Rattle.checks.specs.Checks.{refusalOf}
 use Rattle.admit.specs.Admit.{Admitted, costOf, chargedSum, admitSpec}
-
--- ---- the store as its tables decode
-
-pub record World : Type 0 where
-  pub tables : Tables
-  -- ids once found invalid
-  pub cache : List Held
-  -- what was charged since the last block: in all, and to each peer
-  pub sum : ℕ
-  pub peers : List PeerRecord
-
-abbrev pub world : Tables → List Held → ℕ → List PeerRecord → World
-world t k s p = record { tables = t; cache = k; sum = s; peers = p }
-
--- what a call answers, leaves, and writes into its answer buffer, from the first place on
-pub record Result : Type 0 where
-  pub outcome : Outcome
-  pub world : World
-  pub written : List ℕ
-
--- "nothing changes and no answer byte is written"
-abbrev pub unchanged : Outcome → World → Result
-unchanged o w = record { outcome = o; world = w; written = [] }
 
 -- ---- limits: 5,000 inputs, 500 visits, and what the lent tables hold
 

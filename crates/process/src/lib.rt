@@ -3,12 +3,12 @@
 use admit::admission::admit;
 use admit::admission::cost_of;
 use checks::check;
-use expiring_cache::cache_room;
 use expiring_cache::insert;
 use peers::Standing;
 use peers::flat::charge_flat;
 use peers::flat::find_flat;
-use pool::fits;
+use store::fits_all;
+use store::unfit;
 use types::Mempool;
 use types::ProcessingOutcome;
 use types::Source;
@@ -19,69 +19,24 @@ use words::sums::saturating_add;
 ghost use mathlib.Core.Path.{_≡_};
 ghost use mathlib.Core.Bool.{true};
 ghost use mathlib.Core.List.{List};
-ghost use Prim.Native.Nat.{ℕ, _*_, _/_, _≤_, max};
+ghost use Prim.Native.Nat.{ℕ, _*_, _/_, _≤_};
 ghost use lib.ListN.{length};
-ghost use Rattle.words.specs.Lists.{pick};
 ghost use Rattle.types.specs.Outcomes.{processedOf};
 ghost use Rattle.peers.specs.Flat.{flatPeers};
 ghost use Rattle.pool.specs.Pool.{tablesOf};
 ghost use Rattle.checks.specs.Passed.{Passed};
 ghost use Rattle.admit.specs.Admit.{admitSpec};
 ghost use Rattle.process.specs.Process.{standingOf, admitted, judged};
-ghost use Rattle.process.specs.Fits.{Fits, allFit};
+ghost use Rattle.store.specs.World.{worldOf};
+ghost use Rattle.store.specs.Fits.{Fits};
 ghost use Rattle.process.specs.Charge.{Chargeable, Charged};
-ghost use Rattle.process.specs.Post.{worldOf, resultOf, Post};
+ghost use Rattle.process.specs.Post.{resultOf, Post};
 ghost use Rattle.process.specs.Numbers.{ofSubmission};
 
 // What the call hands back: the state, and what it answers.
 pub struct Processed {
     pub mempool: Mempool,
     pub outcome: ProcessingOutcome,
-}
-
-// How many words 256 peer records take, and how many records there are.
-const PEER_WORDS: usize = 512;
-
-const PEER_RECORDS: usize = 256;
-
-// ---- what safety needs
-
-// A cache holds at least one id.
-fn at_least_one(capacity: usize) -> usize
-    ensures { λ r. ⌜ r ≡ max capacity 1 ⌝ }
-{
-    if capacity == 0 { 1 } else { capacity }
-}
-
-// Whether the counts fit the words that are lent.
-fn fits_all(entries: &[u64], boxes: &[u64], cache: &[u64], peers: &[u64], mempool: Mempool) -> bool
-    ensures { λ r. ⌜ r ≡ allFit (now (entries .entry)) (now (boxes .entry)) (now (cache .entry)) (now (peers .entry)) mempool ⌝ }
-{
-    let counts = mempool.counts;
-    if !fits(entries, boxes, counts) {
-        return false;
-    }
-    let room = cache_room(cache);
-    if room < mempool.cached {
-        return false;
-    }
-    if room < at_least_one(mempool.config.invalidation_capacity) {
-        return false;
-    }
-    if peers.len() < PEER_WORDS {
-        return false;
-    }
-    mempool.sums.peers <= PEER_RECORDS
-}
-
-// What is answered where they do not fit: an open pass is named first here too.
-fn unfit(passing: bool) -> u64
-    ensures { λ r. ⌜ r ≡ pick passing 20 1 ⌝ }
-{
-    if passing {
-        return 20;
-    }
-    1
 }
 
 // ---- the peer

@@ -15,6 +15,13 @@ abbrev pub pick : {A : Type 0} → Bool → A → A → A
 pick true a b = a
 pick false a b = b
 
+-- by a test that is met, and by one that is not
+pub yes : {A : Type 0} (b : Bool) (x y : A) → b ≡ true → pick b x y ≡ x
+yes {A} b x y e = ap (λ (t : Bool). pick t x y) e
+
+pub no : {A : Type 0} (b : Bool) (x y : A) → b ≡ false → pick b x y ≡ y
+no {A} b x y e = ap (λ (t : Bool). pick t x y) e
+
 module _ {A : Type 0} where
   -- the list without its element at index i
   unfoldable pub removeAt : List A → ℕ → List A

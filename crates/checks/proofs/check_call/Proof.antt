@@ -4,8 +4,9 @@ use borrow.Author.Needs.{needs}
 use borrow.Author.Tests.{lt-ltb, le-ltb}
 use mathlib.Core.Path.{sym, ap, _∙_}
 use mathlib.Core.Bool.{not}
+use Rattle.words.specs.Lists.{yes, no}
 use Rattle.checks.specs.Checks.{callRefusal}
-use Rattle.checks.specs.Laws.{yes, no, short, enough}
+use Rattle.checks.specs.Laws.{short, enough}
 use Rattle.checks.proofs.check_call.Statement.{statement}
 use Rattle.checks.proofs.check_call.Tie as tie
 

@@ -4,8 +4,8 @@ use borrow.Author.Tests.{lt-ltb, le-ltb}
 use mathlib.Core.Path.{sym, ap, _∙_}
 use mathlib.Core.Bool.{not}
 use lib.Dec.{ltb}
+use Rattle.words.specs.Lists.{yes, no}
 use Rattle.checks.specs.Checks.{listRefusal}
-use Rattle.checks.specs.Laws.{yes, no}
 use Rattle.checks.proofs.check_lists.Statement.{statement}
 use Rattle.checks.proofs.check_lists.Tie as tie
 

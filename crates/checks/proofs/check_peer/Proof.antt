@@ -2,8 +2,8 @@
 use borrow.Author.Needs.{needs}
 use borrow.Author.Tests.{le-leb, lt-leb}
 use mathlib.Core.Path.{sym, _∙_}
+use Rattle.words.specs.Lists.{yes, no}
 use Rattle.checks.specs.Checks.{peerRefusal}
-use Rattle.checks.specs.Laws.{yes, no}
 use Rattle.checks.proofs.check_peer.Statement.{statement}
 use Rattle.checks.proofs.check_peer.Tie as tie
 

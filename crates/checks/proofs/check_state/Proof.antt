@@ -1,8 +1,8 @@
 -- `checks::check_state` meets its contract: each return is the chain of `stateRefusal`, answered by the tests before it and its own. Assumes nothing.
 use borrow.Author.Needs.{needs}
 use mathlib.Core.Path.{sym, _∙_}
+use Rattle.words.specs.Lists.{yes, no}
 use Rattle.checks.specs.Checks.{stateRefusal}
-use Rattle.checks.specs.Laws.{yes, no}
 use Rattle.checks.proofs.check_state.Statement.{statement}
 use Rattle.checks.proofs.check_state.Tie as tie
 

@@ -2,7 +2,7 @@
 use borrow.Author.Needs.{needs}
 use mathlib.Core.Path.{refl, sym, _∙_}
 use Rattle.checks.specs.Passed.{passed}
-use Rattle.process.specs.Fits.{fitted, unfit, peers-room}
+use Rattle.store.specs.Fits.{fitted, unfit, peers-room}
 use Rattle.process.specs.Numbers.{unfit-ours, claimed}
 use Rattle.process.specs.Post.{post-as, post-refused, stopped, goes-on}
 use Rattle.process.proofs.process.Statement.{statement}

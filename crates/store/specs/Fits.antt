@@ -1,4 +1,4 @@
--- Where a submission can be worked on at all: the counts of the state fit the words that are lent. A call tests it first, on words and counts
+-- Where a changing call can be worked on at all: the counts of the state fit the words that are lent. A call tests it first, on words and counts
 -- that nothing is known of.
 use Prim.Native.Nat.{ℕ, _*_, _≤_, _<_, max}
 use mathlib.Core.Path.{_≡_, refl, sym, ap, _∙_}
@@ -10,11 +10,15 @@ use lib.ListN.{length}
 use borrow.Author.Tests.{leb-true, ltb-false, le-leb, lt-ltb, le-ltb}
 use Rattle.words.specs.Lists.{pick}
 use Rattle.types.specs.declared.Mempool.{Mempool}
-use Rattle.expiring_cache.specs.Layout.{cacheRoom}
+use Rattle.expiring_cache.specs.Layout.{cacheRoom, CacheOk}
 use Rattle.expiring_cache.specs.Layout.{ok-room as room-cache, room-ok as cache-room}
-use Rattle.pool.specs.Pool.{fitsTest}
+use Rattle.pool.specs.Pool.{PoolFits, fitsTest}
 use Rattle.pool.specs.Laws.{fits-true, fits-holds}
-use Rattle.checks.specs.Checks.{Fits as Testable}
+
+-- words of entries, boxes and cache: the counts fit
+pub record Testable (e b k : List ℕ) (st : Mempool) : Type 0 where
+  pub pool : PoolFits e b (st .counts)
+  pub cache : CacheOk k (st .cached)
 
 -- words of entries, boxes, cache and peers: the counts fit, the cache has room for its capacity, and there are 256 peer records
 pub record Fits (e b k p : List ℕ) (st : Mempool) : Type 0 where

@@ -1,12 +1,12 @@
--- `process::fits_all` meets its contract: each return is the chain of `allFit`, answered by the tests before it and its own. Assumes nothing.
+-- `store::fits_all` meets its contract: each return is the chain of `allFit`, answered by the tests before it and its own. Assumes nothing.
 use borrow.Author.Needs.{needs}
 use borrow.Author.Tests.{lt-ltb, le-ltb}
 use mathlib.Core.Path.{refl, sym, ap, _∙_}
 use mathlib.Core.Bool.{not}
-use Rattle.checks.specs.Laws.{yes, no}
-use Rattle.process.specs.Fits.{allFit, lt-by, le-by}
-use Rattle.process.proofs.fits_all.Statement.{statement}
-use Rattle.process.proofs.fits_all.Tie as tie
+use Rattle.words.specs.Lists.{yes, no}
+use Rattle.store.specs.Fits.{allFit, lt-by, le-by}
+use Rattle.store.proofs.fits_all.Statement.{statement}
+use Rattle.store.proofs.fits_all.Tie as tie
 
 fits-requires : tie.Need-fits-requires
 fits-requires c κs = search needs
