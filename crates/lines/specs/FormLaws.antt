@@ -19,7 +19,7 @@ use Rattle.forms.specs.declared.text.Past.the-variants.{At, Not}
 use Rattle.forms.specs.declared.text.Span.{Span}
 use Rattle.forms.specs.declared.text.Span.the-variants.{Is, Isnt}
 use Rattle.lines.specs.FieldLaws.{stands-word, stands-no-word}
-use Rattle.lines.specs.Forms.{isRead, txLists, returnLists, FormAt, ListsAt, AnswerAt, ReadAt, txOne, txTwo, returnOne, returnTwo, answerOne, rebroadcastOne, oneOf, twoOf, worded, txOf, returnOf, answerOf, rebroadcastOf, changeOf, queryOf, measureOf, wordedOf, formOf, wTx, wReturn, wAnswer, wRebroadcast}
+use Rattle.lines.specs.Forms.{isRead, txLists, returnLists, FormAt, ListsAt, AnswerAt, ReadAt, txOne, txTwo, returnOne, returnTwo, blockOne, blockTwo, answerOne, rebroadcastOne, oneOf, twoOf, worded, txOf, returnOf, blockOf, answerOf, rebroadcastOf, changeOf, queryOf, measureOf, wordedOf, formOf, wTx, wReturn, wBlock, wAnswer, wRebroadcast}
 
 -- ---- nothing is left behind a list that has no room
 
@@ -99,41 +99,51 @@ module _ (w l : List ℕ) (at : ℕ) (u y v z : List ℕ) (r : Form) where
           two = λ o t s h. a .two o t s h ∙ ap (λ (x : List ℕ). over 0 x v) (sym (at-next (same w wTx) (txTwo (length u) s) _ e1 ∙ at-first (same w wReturn) (returnTwo (length u) s) _ e));
         }
 
-    module _ (e2 : same w wReturn ≡ false) (un : z ≡ v) where
-      -- the second slice is as it was
-      none-two : (s : Rest) → z ≡ over 0 (twoOf w (length u) s) v
-      unfolding twoOf
-      none-two s = un ∙ ap (λ (x : List ℕ). over 0 x v) (sym (at-next (same w wTx) (txTwo (length u) s) _ e1 ∙ at-next (same w wReturn) (returnTwo (length u) s) _ e2))
-
-      pub worded-answer : same w wAnswer ≡ true → AnswerAt answerOf l at u y answerOne r → ListsAt (worded w) l at u y v z (oneOf w) (twoOf w (length u)) r
-      unfolding wordedOf oneOf
-      worded-answer e a =
+    module _ (e2 : same w wReturn ≡ false) where
+      pub worded-block : same w wBlock ≡ true → ListsAt blockOf l at u y v z blockOne blockTwo r → ListsAt (worded w) l at u y v z (oneOf w) (twoOf w (length u)) r
+      unfolding wordedOf oneOf twoOf
+      worded-block e a =
           record {
-            is = λ t s h. a .is t s h ∙ sym (at-next (same w wTx) _ _ e1 ∙ at-next (same w wReturn) _ _ e2 ∙ at-first (same w wAnswer) _ _ e);
-            one = λ o t s h. a .one o t s h ∙ ap (λ (x : List ℕ). over 0 x u) (sym (at-next (same w wTx) (txOne s) _ e1 ∙ at-next (same w wReturn) (returnOne s) _ e2 ∙ at-first (same w wAnswer) (answerOne s) _ e));
-            two = λ o t s h. none-two s;
+            is = λ t s h. a .is t s h ∙ sym (at-next (same w wTx) _ _ e1 ∙ at-next (same w wReturn) _ _ e2 ∙ at-first (same w wBlock) _ _ e);
+            one = λ o t s h. a .one o t s h ∙ ap (λ (x : List ℕ). over 0 x u) (sym (at-next (same w wTx) (txOne s) _ e1 ∙ at-next (same w wReturn) (returnOne s) _ e2 ∙ at-first (same w wBlock) (blockOne s) _ e));
+            two = λ o t s h. a .two o t s h ∙ ap (λ (x : List ℕ). over 0 x v) (sym (at-next (same w wTx) (txTwo (length u) s) _ e1 ∙ at-next (same w wReturn) (returnTwo (length u) s) _ e2 ∙ at-first (same w wBlock) (blockTwo s) [] e));
           }
 
-      module _ (e3 : same w wAnswer ≡ false) where
-        pub worded-rebroadcast : same w wRebroadcast ≡ true → AnswerAt rebroadcastOf l at u y rebroadcastOne r → ListsAt (worded w) l at u y v z (oneOf w) (twoOf w (length u)) r
+      module _ (e3 : same w wBlock ≡ false) (un : z ≡ v) where
+        -- the second slice is as it was
+        none-two : (s : Rest) → z ≡ over 0 (twoOf w (length u) s) v
+        unfolding twoOf
+        none-two s = un ∙ ap (λ (x : List ℕ). over 0 x v) (sym (at-next (same w wTx) (txTwo (length u) s) _ e1 ∙ at-next (same w wReturn) (returnTwo (length u) s) _ e2 ∙ at-next (same w wBlock) (blockTwo s) [] e3))
+
+        pub worded-answer : same w wAnswer ≡ true → AnswerAt answerOf l at u y answerOne r → ListsAt (worded w) l at u y v z (oneOf w) (twoOf w (length u)) r
         unfolding wordedOf oneOf
-        worded-rebroadcast e a =
+        worded-answer e a =
             record {
-              is = λ t s h. a .is t s h ∙ sym (at-next (same w wTx) _ _ e1 ∙ at-next (same w wReturn) _ _ e2 ∙ at-next (same w wAnswer) _ _ e3 ∙ at-first (same w wRebroadcast) _ _ e);
-              one = λ o t s h. a .one o t s h
-                  ∙ ap (λ (x : List ℕ). over 0 x u) (sym (at-next (same w wTx) (txOne s) _ e1 ∙ at-next (same w wReturn) (returnOne s) _ e2 ∙ at-next (same w wAnswer) (answerOne s) _ e3 ∙ at-first (same w wRebroadcast) (rebroadcastOne s) [] e));
+              is = λ t s h. a .is t s h ∙ sym (at-next (same w wTx) _ _ e1 ∙ at-next (same w wReturn) _ _ e2 ∙ at-next (same w wBlock) _ _ e3 ∙ at-first (same w wAnswer) _ _ e);
+              one = λ o t s h. a .one o t s h ∙ ap (λ (x : List ℕ). over 0 x u) (sym (at-next (same w wTx) (txOne s) _ e1 ∙ at-next (same w wReturn) (returnOne s) _ e2 ∙ at-next (same w wBlock) (blockOne s) _ e3 ∙ at-first (same w wAnswer) (answerOne s) _ e));
               two = λ o t s h. none-two s;
             }
 
-        pub worded-change : same w wRebroadcast ≡ false → y ≡ u → FormAt (changeOf w) l at r → ListsAt (worded w) l at u y v z (oneOf w) (twoOf w (length u)) r
-        unfolding wordedOf oneOf FormAt
-        worded-change e k a =
-            record {
-              is = λ t s h. a 7 t s h ∙ sym (at-next (same w wTx) _ _ e1 ∙ at-next (same w wReturn) _ _ e2 ∙ at-next (same w wAnswer) _ _ e3 ∙ at-next (same w wRebroadcast) _ _ e);
-              one = λ o t s h. k
-                  ∙ ap (λ (x : List ℕ). over 0 x u) (sym (at-next (same w wTx) (txOne s) _ e1 ∙ at-next (same w wReturn) (returnOne s) _ e2 ∙ at-next (same w wAnswer) (answerOne s) _ e3 ∙ at-next (same w wRebroadcast) (rebroadcastOne s) [] e));
-              two = λ o t s h. none-two s;
-            }
+        module _ (e4 : same w wAnswer ≡ false) where
+          pub worded-rebroadcast : same w wRebroadcast ≡ true → AnswerAt rebroadcastOf l at u y rebroadcastOne r → ListsAt (worded w) l at u y v z (oneOf w) (twoOf w (length u)) r
+          unfolding wordedOf oneOf
+          worded-rebroadcast e a =
+              record {
+                is = λ t s h. a .is t s h ∙ sym (at-next (same w wTx) _ _ e1 ∙ at-next (same w wReturn) _ _ e2 ∙ at-next (same w wBlock) _ _ e3 ∙ at-next (same w wAnswer) _ _ e4 ∙ at-first (same w wRebroadcast) _ _ e);
+                one = λ o t s h. a .one o t s h
+                    ∙ ap (λ (x : List ℕ). over 0 x u) (sym (at-next (same w wTx) (txOne s) _ e1 ∙ at-next (same w wReturn) (returnOne s) _ e2 ∙ at-next (same w wBlock) (blockOne s) _ e3 ∙ at-next (same w wAnswer) (answerOne s) _ e4 ∙ at-first (same w wRebroadcast) (rebroadcastOne s) [] e));
+                two = λ o t s h. none-two s;
+              }
+
+          pub worded-change : same w wRebroadcast ≡ false → y ≡ u → FormAt (changeOf w) l at r → ListsAt (worded w) l at u y v z (oneOf w) (twoOf w (length u)) r
+          unfolding wordedOf oneOf FormAt
+          worded-change e k a =
+              record {
+                is = λ t s h. a 7 t s h ∙ sym (at-next (same w wTx) _ _ e1 ∙ at-next (same w wReturn) _ _ e2 ∙ at-next (same w wBlock) _ _ e3 ∙ at-next (same w wAnswer) _ _ e4 ∙ at-next (same w wRebroadcast) _ _ e);
+                one = λ o t s h. k
+                    ∙ ap (λ (x : List ℕ). over 0 x u) (sym (at-next (same w wTx) (txOne s) _ e1 ∙ at-next (same w wReturn) (returnOne s) _ e2 ∙ at-next (same w wBlock) (blockOne s) _ e3 ∙ at-next (same w wAnswer) (answerOne s) _ e4 ∙ at-next (same w wRebroadcast) (rebroadcastOne s) [] e));
+                two = λ o t s h. none-two s;
+              }
 
 -- ---- the line
 

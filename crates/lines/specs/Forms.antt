@@ -10,12 +10,14 @@ use Rattle.lines.specs.declared.read.PoolForm.{PoolForm}
 use Rattle.lines.specs.declared.read.Form.{Form}
 use Rattle.lines.specs.declared.read.TxForm.{TxForm}
 use Rattle.lines.specs.declared.read.ReturnForm.{ReturnForm}
-use Rattle.lines.specs.declared.read.Form.the-variants.{Pool, Tx, Return, Invalidate, Open, Next, Answer, Rebroadcast, List, Top, Len, Contains, Spending, Fee, Wait, Histogram, Charges, Written, Unread}
+use Rattle.lines.specs.declared.read.BlockForm.{BlockForm}
+use Rattle.lines.specs.declared.read.Form.the-variants.{Pool, Tx, Return, Block, Invalidate, Open, Next, Answer, Rebroadcast, List, Top, Len, Contains, Spending, Fee, Wait, Histogram, Charges, Written, Unread}
 use Rattle.lines.specs.declared.items.Records.the-variants.{Boxes, Flags, Inputs, Heights, Outputs}
 use Rattle.forms.specs.Text.{Members, none, word, sub, Line}
-use Rattle.forms.specs.Nums.{over, decimal, isDigits, more, digitOf}
-use Rattle.lines.specs.Fields.{Rest, here, gone, wordOf, pastWord, listOf, ended, Stands, value, past, number64, number32, numbers, ids, choices, optional, same, judged, pastVerdict, wNone}
-use Rattle.lines.specs.Items.{wFee, itemOf, wordsIn, fits, countOf, pastItems}
+use Rattle.forms.specs.Nums.{over, decimal, idRead, isHex, isDigits, more, digitOf, idOfDigits}
+use Rattle.lines.specs.Fields.{Rest, here, gone, wordOf, pastWord, listOf, pastList, ended, Stands, value, past, number64, number32, numbers, ids, choices, optional, same, judged, pastVerdict, wNone}
+use Rattle.lines.specs.Items.{wFee, itemOf, boxes, wordsOf, wordsIn, allOk, allIn, fits, count, countIn, countOf, pastItems}
+use Rattle.lines.specs.Blocks.{transactions, txWords, boxWords, isTx, boxList, inputsOf, inputsIn, fitsBlock, txsCount, inputsCount, pastBlock}
 use lib.ListN.{length}
 
 abbrev pub isRead : Form → Bool
@@ -23,6 +25,7 @@ isRead Unread = false
 isRead (Pool f) = true
 isRead (Tx f) = true
 isRead (Return f) = true
+isRead (Block f) = true
 isRead (Invalidate a b) = true
 isRead (Open a b c) = true
 isRead Next = true
@@ -132,6 +135,9 @@ wTx = 116 ∷ 120 ∷ []
 abbrev pub wReturn : ListOf.List ℕ
 wReturn = 114 ∷ 101 ∷ 116 ∷ 117 ∷ 114 ∷ 110 ∷ []
 
+abbrev pub wBlock : ListOf.List ℕ
+wBlock = 98 ∷ 108 ∷ 111 ∷ 99 ∷ 107 ∷ []
+
 abbrev pub wInvalidate : ListOf.List ℕ
 wInvalidate = 105 ∷ 110 ∷ 118 ∷ 97 ∷ 108 ∷ 105 ∷ 100 ∷ 97 ∷ 116 ∷ 101 ∷ []
 
@@ -228,6 +234,12 @@ returnOf a b s =
 unfoldable pub returnLists : Rest → Rest
 returnLists s = past (optional wLocal) (past number64 (past number64 (past (optional wNone) (past number32 (past number64 (past number64 (past ids s)))))))
 
+-- `(block TIME ((ID (BOX..))..))`
+unfoldable pub blockOf : ℕ → ℕ → Rest → Form
+blockOf a b s =
+    let s1 = past number64 s in
+    whole (pastBlock a b s1) (Block (record { time = value number64 s; transactions = txsCount a b (listOf s1); inputs = inputsCount a b (listOf s1) }))
+
 -- `(answer (set|not ..) VERDICT)`
 unfoldable pub answerOf : ℕ → Rest → Form
 answerOf a s = let s1 = pastItems (itemOf Flags) a s in whole (pastVerdict s1) (Answer (countOf (itemOf Flags) a (listOf s)) (judged (listOf s1)))
@@ -255,7 +267,7 @@ module _ (w : ListOf.List ℕ) (s : Rest) where
 
   unfoldable pub wordedOf : ℕ → ℕ → Form
   wordedOf a b =
-      pick (same w wTx) (txOf a b s) (pick (same w wReturn) (returnOf a b s) (pick (same w wAnswer) (answerOf a s) (pick (same w wRebroadcast) (rebroadcastOf a s) changeOf)))
+      pick (same w wTx) (txOf a b s) (pick (same w wReturn) (returnOf a b s) (pick (same w wBlock) (blockOf a b s) (pick (same w wAnswer) (answerOf a s) (pick (same w wRebroadcast) (rebroadcastOf a s) changeOf))))
 
 -- THE SPECIFICATION: the form that a list's members are
 unfoldable pub formOf : ℕ → ℕ → Members → Form
@@ -284,6 +296,12 @@ returnOne s = wordsIn (itemOf Boxes) (listOf (returnLists s))
 unfoldable pub returnTwo : ℕ → Rest → ListOf.List ℕ
 returnTwo a s = wordsIn (itemOf Heights) (listOf (pastItems (itemOf Boxes) a (returnLists s)))
 
+unfoldable pub blockOne : Rest → ListOf.List ℕ
+blockOne s = wordsIn transactions (listOf (past number64 s))
+
+unfoldable pub blockTwo : Rest → ListOf.List ℕ
+blockTwo s = inputsIn (listOf (past number64 s))
+
 unfoldable pub answerOne : Rest → ListOf.List ℕ
 answerOne s = wordsIn (itemOf Flags) (listOf s)
 
@@ -292,10 +310,10 @@ rebroadcastOne s = wordsIn (itemOf Boxes) (listOf s)
 
 -- by the first word w: the words in the first slice, and in the second
 unfoldable pub oneOf : ListOf.List ℕ → Rest → ListOf.List ℕ
-oneOf w s = pick (same w wTx) (txOne s) (pick (same w wReturn) (returnOne s) (pick (same w wAnswer) (answerOne s) (pick (same w wRebroadcast) (rebroadcastOne s) [])))
+oneOf w s = pick (same w wTx) (txOne s) (pick (same w wReturn) (returnOne s) (pick (same w wBlock) (blockOne s) (pick (same w wAnswer) (answerOne s) (pick (same w wRebroadcast) (rebroadcastOne s) []))))
 
 unfoldable pub twoOf : ListOf.List ℕ → ℕ → Rest → ListOf.List ℕ
-twoOf w a s = pick (same w wTx) (txTwo a s) (pick (same w wReturn) (returnTwo a s) [])
+twoOf w a s = pick (same w wTx) (txTwo a s) (pick (same w wReturn) (returnTwo a s) (pick (same w wBlock) (blockTwo s) []))
 
 abbrev pub worded : ListOf.List ℕ → ℕ → ℕ → Rest → Form
 worded w a b s = wordedOf w s a b
@@ -326,3 +344,15 @@ form-edges : (formOf 0 0 (word wList none) ≡ List) × (formOf 0 0 (word wList 
     × (formOf 0 0 (word wFee (word (52 ∷ 50 ∷ 57 ∷ 52 ∷ 57 ∷ 54 ∷ 55 ∷ 50 ∷ 57 ∷ 54 ∷ []) (word (49 ∷ []) none))) ≡ Unread) × (formOf 0 0 (sub none none) ≡ Unread)
 unfolding formOf wordedOf changeOf queryOf measureOf plainOf topOf feeOf wordOf pastWord ended same value past numbers decimal isDigits more digitOf
 form-edges = (refl, refl, refl, refl, refl)
+
+-- the members `(a (1 2)) (c ())`
+abbrev two : Members
+two = sub (word (97 ∷ []) (sub (word (49 ∷ []) (word (50 ∷ []) none)) none)) (sub (word (99 ∷ []) (sub none none)) none)
+
+-- `(block 50 ((a (1 2)) (c ())))` has 10 and 8 words; with room for 9 it is not read; `(block 50 ())` is a block without transactions; `((a b))` holds none
+block-edges : (formOf 10 8 (word wBlock (word (53 ∷ 48 ∷ []) (sub two none))) ≡ Block (record { time = 50; transactions = 10; inputs = 8 }))
+    × (formOf 9 8 (word wBlock (word (53 ∷ 48 ∷ []) (sub two none))) ≡ Unread) × (formOf 10 7 (word wBlock (word (53 ∷ 48 ∷ []) (sub two none))) ≡ Unread)
+    × (formOf 0 0 (word wBlock (word (53 ∷ 48 ∷ []) (sub none none))) ≡ Block (record { time = 50; transactions = 0; inputs = 0 }))
+    × (formOf 99 99 (word wBlock (word (53 ∷ 48 ∷ []) (sub (sub (word (97 ∷ []) (word (98 ∷ []) none)) none) none))) ≡ Unread)
+unfolding formOf wordedOf blockOf txsCount inputsCount pastBlock fitsBlock fits wordsIn wordsOf allIn allOk inputsIn inputsOf transactions txWords boxWords isTx boxList boxes count countIn listOf pastList wordOf pastWord ended same value past numbers ids decimal idRead isHex isDigits more digitOf idOfDigits
+block-edges = (refl, refl, refl, refl, refl)

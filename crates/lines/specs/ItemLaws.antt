@@ -1,10 +1,10 @@
 -- Laws of lists of records: a record's words are written behind those before it, and what is left of the list says the rest.
-use Prim.Native.Nat.{ℕ, zero, suc, _+_, _-_, _<_, _≤_}
+use Prim.Native.Nat.{ℕ, zero, suc, _+_, _-_, _*_, _<_, _≤_}
 use mathlib.Core.Path.{_≡_, refl, sym, ap, ap₂, _∙_, subst}
 use mathlib.Core.Bool.{Bool, true, false}
 use mathlib.Core.List.{List, [], _∷_, _++_, append-assoc, append-nil}
 use native.Mathlib.Omega.{arith}
-use native.Mathlib.Nat.{add-suc}
+use native.Mathlib.Nat.{add-suc, suc-mul}
 use native.Mathlib.Numerals.{add-one}
 use lib.ListN.{length, take, drop, set, length-append, length-drop, take-append-drop}
 use lib.Seq.{sets, sets-eq, drop-drop, length-take-le, drop-at, take-at, take-add}
@@ -23,7 +23,7 @@ use Rattle.forms.specs.declared.text.Span.the-variants.{Is, Isnt}
 use Rattle.lines.specs.declared.items.Records.{Records}
 use Rattle.lines.specs.Fields.{Rest, gone, here, wordOf, pastWord, listOf, pastList, ended, Kind, value, past, ids, choices, number32, number64, isOf, same, Stands, FieldAt}
 use Rattle.lines.specs.FieldLaws.{stands-list, stands-no-list, stands-end, stands-gone}
-use Rattle.lines.specs.Items.{Item, itemOf, wSet, wNot, wFee, wPay, wordItem, listItem, boxes, flags, flagWords, inputs, inputWords, isInput, heights, heightWords, isHeight, outputs, outputWords, isOutput, wordsOf, allOk, wordsIn, allIn, fits, countOf, pastItems, pastOne, ItemAt, ItemsAt, ListAt}
+use Rattle.lines.specs.Items.{Item, itemOf, wSet, wNot, wFee, wPay, wordItem, listItem, boxes, flags, flagWords, inputs, inputWords, isInput, heights, heightWords, isHeight, outputs, outputWords, isOutput, wordsOf, allOk, wordsIn, allIn, fits, countOf, pastItems, count, countIn, pastOne, ItemAt, ItemsAt, ListAt}
 
 -- ---- words written
 
@@ -67,7 +67,7 @@ module _ (x y ws : List ℕ) (k : ℕ) (h : k + length ws ≤ length x) (e : y �
 
 -- ---- one record
 
-past-gone : {A : Type 0} (k : Kind A) → past k gone ≡ gone
+pub past-gone : {A : Type 0} (k : Kind A) → past k gone ≡ gone
 unfolding past pastWord
 past-gone k = go (k .ok (wordOf gone))
   where
@@ -98,7 +98,7 @@ module _ {A : Type 0} (k : Kind A) (w : ℕ) (f : A → List ℕ) (e : (v : A) �
 unfoldable pub Inner : List ℕ → ℕ → (Rest → List ℕ) → (Rest → Bool) → List ℕ → Bool → Type 0
 Inner l a of ok ws b = (d : ℕ) (t : List ℕ) (i : Rest) → Stands l d t a true i → (ws ≡ of i) × (b ≡ ok i)
 
-past-list : (ok : Rest → Bool) → ok gone ≡ false → (s : Rest) → pick (ok (listOf s)) (pastList s) gone ≡ pick (ok (listOf s)) (pastOne s) gone
+pub past-list : (ok : Rest → Bool) → ok gone ≡ false → (s : Rest) → pick (ok (listOf s)) (pastList s) gone ≡ pick (ok (listOf s)) (pastOne s) gone
 unfolding listOf pastList pastOne
 past-list ok e gone = refl
 past-list ok e (here none) = refl
@@ -264,6 +264,7 @@ module _ (it : Item) (l : List ℕ) (d at i : ℕ) (g : Bool) (x y : List ℕ) (
   unfolding Tie Stands fits countOf allOk wordsOf
   ends-whole en =
       record {
+        room = o .room;
         is = λ t s r. let f = words t s r in (sym (f .0), sym (ap (λ (z : Bool). pick z (length (wordsIn it s)) 0) (f .0) ∙ f .1));
         wrote = λ e t s r. let f = words t s r in
             sym (take-append-drop k y) ∙ ap₂ (λ (u v : List ℕ). u ++ v) (sym (f .2)) (o .kept ∙ ap (λ (z : ℕ). drop z x) (let z : k ≡ 0 + length (wordsIn it s) = omega (arith, f .1) in z));
@@ -283,7 +284,7 @@ module _ (it : Item) (l : List ℕ) (d at i : ℕ) (g : Bool) (x y : List ℕ) (
 
   no-items : ((t : List ℕ) (s : Rest) → Stands l d t at true s → fits it (length x) s ≡ false) → ItemsAt it l at d x y 0 false
   unfolding countOf
-  no-items f = record { is = λ t s r. (sym (f t s r), sym (ap (λ (z : Bool). pick z (length (wordsIn it s)) 0) (f t s r))); wrote = λ e. true-false e refl }
+  no-items f = record { room = omega arith; is = λ t s r. (sym (f t s r), sym (ap (λ (z : Bool). pick z (length (wordsIn it s)) 0) (f t s r))); wrote = λ e. true-false e refl }
 
   pub ends-line : length l ≤ i → ItemsAt it l at d x y 0 false
   unfolding Tie Stands fits
@@ -325,6 +326,19 @@ end-is l at g r s f e = subst (λ (z : Bool). EndHere l at g z) e f
 pub item-kind : (l : List ℕ) (at : ℕ) (g : Bool) (d k : ℕ) (x y : List ℕ) (next : ℕ) (r s : Records) → r ≡ s → ItemAt (itemOf s) l at g d k x y next → ItemAt (itemOf r) l at g d k x y next
 item-kind l at g d k x y next r s e a = subst (λ (z : Records). ItemAt (itemOf z) l at g d k x y next) (sym e) a
 
+-- ---- how many words there are
+
+pub words-length : (it : Item) (m : Members) → length (wordsOf it m) ≡ count m * it .width
+unfolding wordsOf count
+words-length it none = omega arith
+words-length it (word w n) = length-append (it .of (here (word w n))) (wordsOf it n) ∙ ap₂ (λ (x y : ℕ). x + y) (it .wide (here (word w n))) (words-length it n) ∙ omega (arith, suc-mul (count n) (it .width))
+words-length it (sub i n) = length-append (it .of (here (sub i n))) (wordsOf it n) ∙ ap₂ (λ (x y : ℕ). x + y) (it .wide (here (sub i n))) (words-length it n) ∙ omega (arith, suc-mul (count n) (it .width))
+
+pub words-in-length : (it : Item) (s : Rest) → length (wordsIn it s) ≡ countIn s * it .width
+unfolding wordsIn countIn
+words-in-length it gone = omega arith
+words-in-length it (here m) = words-length it m
+
 -- ---- a list as a field
 
 module _ (it : Item) (l : List ℕ) (at d : ℕ) (x : List ℕ) where
@@ -333,6 +347,7 @@ module _ (it : Item) (l : List ℕ) (at d : ℕ) (x : List ℕ) where
   list-none f =
       record {
         inside = omega arith;
+        room = omega arith;
         is = λ t s h. let w = stands-no-list l at false d t f s h in
             (sym (ap (λ (z : Bool). pick z (length (wordsIn it (listOf s))) 0) (no s (w .0))), stands-gone l d t (length l) false (pastItems it (length x) s) (ap (λ (z : Bool). pick z (pastList s) gone) (no s (w .0))) (omega arith));
         wrote = λ t s h e. true-false e (no s (stands-no-list l at false d t f s h .0));
@@ -353,6 +368,7 @@ module _ (it : Item) (l : List ℕ) (at d : ℕ) (x : List ℕ) where
     list-yes p =
         record {
           inside = f .2;
+          room = j .room;
           is = λ t s h. let w = inner t s h in
               let q = j .is (drop e l) (listOf s) (w .0) in
               (q .1, subst (λ (z : Bool). Stands l d t e false (pick z (pastList s) gone)) (sym p ∙ q .0) (w .1));
@@ -364,6 +380,7 @@ module _ (it : Item) (l : List ℕ) (at d : ℕ) (x : List ℕ) where
     list-off p =
         record {
           inside = omega arith;
+          room = omega arith;
           is = λ t s h. let q = j .is (drop e l) (listOf s) (inner t s h .0) in
               let no = sym (q .0) ∙ p in
               (sym (ap (λ (z : Bool). pick z (length (wordsIn it (listOf s))) 0) no), stands-gone l d t (length l) false (pastItems it (length x) s) (ap (λ (z : Bool). pick z (pastList s) gone) no) (omega arith));

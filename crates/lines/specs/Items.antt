@@ -125,6 +125,16 @@ module _ (it : Item) where
   unfoldable pub pastItems : ℕ → Rest → Rest
   pastItems room s = pick (fits room (listOf s)) (pastList s) gone
 
+-- how many members a list has
+unfoldable pub count : Members → ℕ
+count none = 0
+count (word w n) = suc (count n)
+count (sub i n) = suc (count n)
+
+unfoldable pub countIn : Rest → ℕ
+countIn gone = 0
+countIn (here m) = count m
+
 -- what is left behind one member
 unfoldable pub pastOne : Rest → Rest
 pastOne gone = gone
@@ -144,14 +154,16 @@ pub record ItemAt (it : Item) (l : List ℕ) (at : ℕ) (g : Bool) (d k : ℕ) (
   pub is : (t : List ℕ) (s : Rest) → Stands l d t at g s → (it .ok s ≡ true → words ≡ it .of s) × Stands l d t next false (pick (it .ok s) (pastOne s) gone)
 
 -- a reader of all records of a list
-pub record ItemsAt (it : Item) (l : List ℕ) (at d : ℕ) (x y : List ℕ) (count : ℕ) (b : Bool) : Type 0 where
-  pub is : (t : List ℕ) (s : Rest) → Stands l d t at true s → (b ≡ fits it (length x) s) × (count ≡ countOf it (length x) s)
+pub record ItemsAt (it : Item) (l : List ℕ) (at d : ℕ) (x y : List ℕ) (n : ℕ) (b : Bool) : Type 0 where
+  pub room : n ≤ length x
+  pub is : (t : List ℕ) (s : Rest) → Stands l d t at true s → (b ≡ fits it (length x) s) × (n ≡ countOf it (length x) s)
   pub wrote : b ≡ true → (t : List ℕ) (s : Rest) → Stands l d t at true s → y ≡ over 0 (wordsIn it s) x
 
 -- the same with the list's brackets, as a field
-pub record ListAt (it : Item) (l : List ℕ) (at d : ℕ) (x y : List ℕ) (count next : ℕ) : Type 0 where
+pub record ListAt (it : Item) (l : List ℕ) (at d : ℕ) (x y : List ℕ) (n next : ℕ) : Type 0 where
   pub inside : next ≤ length l
-  pub is : (t : List ℕ) (s : Rest) → Stands l d t at false s → (count ≡ countOf it (length x) (listOf s)) × Stands l d t next false (pastItems it (length x) s)
+  pub room : n ≤ length x
+  pub is : (t : List ℕ) (s : Rest) → Stands l d t at false s → (n ≡ countOf it (length x) (listOf s)) × Stands l d t next false (pastItems it (length x) s)
   pub wrote : (t : List ℕ) (s : Rest) → Stands l d t at false s → fits it (length x) (listOf s) ≡ true → y ≡ over 0 (wordsIn it (listOf s)) x
 
 -- on an edge: `((1 set))` is five words, and `((1 set) 2)` is no list of inputs

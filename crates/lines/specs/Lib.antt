@@ -2,6 +2,8 @@ pub mod Fields
 pub mod FieldLaws
 pub mod Items
 pub mod ItemLaws
+pub mod Blocks
+pub mod BlockLaws
 pub mod Forms
 pub mod FormLaws
 pub mod Room

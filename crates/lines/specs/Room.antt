@@ -1,40 +1,41 @@
--- A line of at most 4,096 bytes has no list of more than 2,048 members, and a record has at most 7 words: slices of 14,336 words have room for every
--- list of every line, and what a line is read as does not depend on them (`form-room`).
-use Prim.Native.Nat.{ℕ, zero, suc, _+_, _*_, _<_, _≤_}
-use mathlib.Core.Path.{_≡_, refl, sym, ap, ap₂, _∙_, subst}
+-- A line of at most 4,096 bytes has no list of more than 2,048 words and lists, at any depth, and a record has at most 7 words: slices of 14,336 words
+-- have room for every list of every line, a block's boxes too, and what a line is read as does not depend on them (`form-room`).
+use Prim.Native.Nat.{ℕ, suc, _+_, _*_, _<_, _≤_}
+use mathlib.Core.Path.{_≡_, refl, sym, ap, ap₂, _∙_}
 use mathlib.Core.Bool.{Bool, true, false}
 use mathlib.Core.List.{List, [], _∷_, _++_}
 use native.Mathlib.Omega.{arith}
-use native.Mathlib.Nat.{mul-le-mul, mul-comm, suc-mul}
+use native.Mathlib.Nat.{mul-le-mul}
 use lib.ListN.{length, length-append, length-replicate}
-use lib.Dec.{leb}
 use borrow.Author.Tests.{le-leb}
 use Rattle.words.specs.Lists.{pick}
 use Rattle.forms.specs.Text.{Members, none, word, sub, Spells, Line, Gap, spaces}
 use Rattle.lines.specs.declared.items.Records.{Records}
 use Rattle.lines.specs.declared.items.Records.the-variants.{Boxes, Flags, Inputs, Heights, Outputs}
 use Rattle.lines.specs.declared.read.Form.{Form}
-use Rattle.lines.specs.declared.read.Form.the-variants.{Tx, Return, Answer, Rebroadcast}
+use Rattle.lines.specs.declared.read.Form.the-variants.{Tx, Return, Block, Answer, Rebroadcast}
 use Rattle.lines.specs.Fields.{Rest, gone, here, wordOf, pastWord, listOf, pastList, Kind, value, past, number64, number32, ids, optional, same, judged, pastVerdict, wNone}
-use Rattle.lines.specs.Forms.{whole, txOf, returnOf, answerOf, rebroadcastOf, changeOf, wordedOf, formOf, wLocal, wTx, wReturn, wAnswer, wRebroadcast}
-use Rattle.lines.specs.Items.{Item, itemOf, boxes, flags, inputs, heights, outputs, wordsOf, wordsIn, allIn, fits, countOf, pastItems}
+use Rattle.lines.specs.Forms.{whole, txOf, returnOf, blockOf, answerOf, rebroadcastOf, changeOf, wordedOf, formOf, wLocal, wTx, wReturn, wBlock, wAnswer, wRebroadcast}
+use Rattle.lines.specs.Items.{Item, itemOf, boxes, flags, inputs, heights, outputs, wordsIn, allIn, fits, countOf, pastItems, count, countIn}
+use Rattle.lines.specs.ItemLaws.{words-in-length}
+use Rattle.lines.specs.Blocks.{boxList, boxWords, transactions, inputsOf, inputsIn, fitsBlock, txsCount, inputsCount, pastBlock}
 
--- how many members a list has
-unfoldable pub count : Members → ℕ
-count none = 0
-count (word w n) = suc (count n)
-count (sub i n) = suc (count n)
+-- how many words and lists stand in a list, at any depth
+unfoldable pub size : Members → ℕ
+size none = 0
+size (word w n) = suc (size n)
+size (sub i n) = suc (size i + size n)
 
-unfoldable pub countIn : Rest → ℕ
-countIn gone = 0
-countIn (here m) = count m
+unfoldable pub sizeIn : Rest → ℕ
+sizeIn gone = 0
+sizeIn (here m) = size m
 
--- the lists among the members have at most b / 2 members each
+-- the lists among the members have at most b / 2 words and lists each
 unfoldable pub Small : ℕ → Rest → Type 0
 Small b gone = Unit {0}
 Small b (here none) = Unit {0}
 Small b (here (word w n)) = Small b (here n)
-Small b (here (sub i n)) = (2 * count i ≤ b) × Small b (here n)
+Small b (here (sub i n)) = (2 * size i ≤ b) × Small b (here n)
 
 -- ---- from the spelling
 
@@ -46,28 +47,30 @@ unfolding Gap
 gap-pos k h = h
 
 -- each member but the first has a space before it, and the bracket is behind the last
-behind : (d : ℕ) (m : Members) (s : List ℕ) → Spells d false m s → 2 * count m + 1 ≤ length s
-unfolding Spells count
-behind d none s p = omega (arith, ap length (p .1), spaced (p .0) (41 ∷ []))
-behind d (word w n) s p = omega (arith, ap length (p .2), spaced (p .0) (w ++ p .1), length-append w (p .1), gap-pos (p .0) (p .3), p .4 .0, behind d n (p .1) (p .5))
-behind d (sub i n) s p =
-    omega (arith, ap length (p .4), spaced (p .0) (40 ∷ (p .2 ++ p .3)), length-append (p .2) (p .3), gap-pos (p .0) (p .5), behind d n (p .3) (p .8))
+unfoldable behind : Bool → ℕ
+behind true = 0
+behind false = 1
 
-pub count-le : (d : ℕ) (m : Members) (s : List ℕ) → Spells d true m s → 2 * count m ≤ length s
-unfolding Spells count
-count-le d none s p = omega (arith, ap length (p .1), spaced (p .0) (41 ∷ []))
-count-le d (word w n) s p = omega (arith, ap length (p .2), spaced (p .0) (w ++ p .1), length-append w (p .1), p .4 .0, behind d n (p .1) (p .5))
-count-le d (sub i n) s p = omega (arith, ap length (p .4), spaced (p .0) (40 ∷ (p .2 ++ p .3)), length-append (p .2) (p .3), behind d n (p .3) (p .8))
+size-le : (d : ℕ) (g : Bool) (m : Members) (s : List ℕ) → Spells d g m s → 2 * size m + behind g ≤ length s
+unfolding Spells size behind
+size-le d true none s p = omega (arith, ap length (p .1), spaced (p .0) (41 ∷ []))
+size-le d false none s p = omega (arith, ap length (p .1), spaced (p .0) (41 ∷ []))
+size-le d true (word w n) s p = omega (arith, ap length (p .2), spaced (p .0) (w ++ p .1), length-append w (p .1), p .4 .0, size-le d false n (p .1) (p .5))
+size-le d false (word w n) s p = omega (arith, ap length (p .2), spaced (p .0) (w ++ p .1), length-append w (p .1), gap-pos (p .0) (p .3), p .4 .0, size-le d false n (p .1) (p .5))
+size-le d true (sub i n) s p =
+    omega (arith, ap length (p .4), spaced (p .0) (40 ∷ (p .2 ++ p .3)), length-append (p .2) (p .3), size-le (p .1) true i (p .2) (p .7), size-le d false n (p .3) (p .8))
+size-le d false (sub i n) s p =
+    omega (arith, ap length (p .4), spaced (p .0) (40 ∷ (p .2 ++ p .3)), length-append (p .2) (p .3), gap-pos (p .0) (p .5), size-le (p .1) true i (p .2) (p .7), size-le d false n (p .3) (p .8))
 
 small : (b d : ℕ) (g : Bool) (m : Members) (s : List ℕ) → length s ≤ b → Spells d g m s → Small b (here m)
-unfolding Small Spells
+unfolding Small Spells behind
 small b d g none s h p = tt
 small b d g (word w n) s h p = small b d false n (p .1) (omega (arith, ap length (p .2), spaced (p .0) (w ++ p .1), length-append w (p .1))) (p .5)
 small b d g (sub i n) s h p =
     let len = ap length (p .4) in
     let sp = spaced (p .0) (40 ∷ (p .2 ++ p .3)) in
     let two = length-append (p .2) (p .3) in
-    (omega (arith, count-le (p .1) i (p .2) (p .7)), small b d false n (p .3) (omega arith) (p .8))
+    (omega (arith, size-le (p .1) true i (p .2) (p .7)), small b d false n (p .3) (omega arith) (p .8))
 
 pub small-line : (m : Members) (l : List ℕ) → Line m l → Small 4096 (here m)
 unfolding Line
@@ -84,8 +87,8 @@ module _ (b : ℕ) where
   small-word (here (word w n)) h = h
   small-word (here (sub i n)) h = tt
 
-  small-list : (s : Rest) → Small b s → Small b (pastList s) × (2 * countIn (listOf s) ≤ b)
-  unfolding Small pastList listOf countIn
+  small-list : (s : Rest) → Small b s → Small b (pastList s) × (2 * sizeIn (listOf s) ≤ b)
+  unfolding Small pastList listOf sizeIn
   small-list gone h = (tt, omega arith)
   small-list (here none) h = (tt, omega arith)
   small-list (here (word w n)) h = (tt, omega arith)
@@ -106,11 +109,16 @@ module _ (b : ℕ) where
 
 -- ---- the words of its records
 
-words-length : (it : Item) (m : Members) → length (wordsOf it m) ≡ count m * it .width
-unfolding wordsOf count
-words-length it none = omega arith
-words-length it (word w n) = length-append (it .of (here (word w n))) (wordsOf it n) ∙ ap₂ (λ (x y : ℕ). x + y) (it .wide (here (word w n))) (words-length it n) ∙ omega (arith, suc-mul (count n) (it .width))
-words-length it (sub i n) = length-append (it .of (here (sub i n))) (wordsOf it n) ∙ ap₂ (λ (x y : ℕ). x + y) (it .wide (here (sub i n))) (words-length it n) ∙ omega (arith, suc-mul (count n) (it .width))
+few : (m : Members) → count m ≤ size m
+unfolding count size
+few none = omega arith
+few (word w n) = omega (arith, few n)
+few (sub i n) = omega (arith, few n)
+
+few-in : (s : Rest) → countIn s ≤ sizeIn s
+unfolding countIn sizeIn
+few-in gone = omega arith
+few-in (here m) = few m
 
 narrow : (k : Records) → itemOf k .width ≤ 7
 unfolding itemOf boxes flags inputs heights outputs
@@ -120,17 +128,63 @@ narrow Inputs = omega arith
 narrow Heights = omega arith
 narrow Outputs = omega arith
 
-words-le : (k : Records) (s : Rest) → 2 * countIn s ≤ 4096 → length (wordsIn (itemOf k) s) ≤ 14336
-unfolding wordsIn countIn
-words-le k gone h = omega arith
-words-le k (here m) h =
-    let c : count m ≤ 2048 = omega arith in
-    let q : count m * itemOf k .width ≤ 2048 * 7 = mul-le-mul c (narrow k) in
-    omega (arith, words-length (itemOf k) m)
+module _ (it : Item) (w : it .width ≤ 7) (s : Rest) (n : 2 * sizeIn s ≤ 4096) where
+  words-le : length (wordsIn it s) ≤ 14336
+  words-le =
+      let c : countIn s ≤ 2048 = omega (arith, few-in s) in
+      let q : countIn s * it .width ≤ 2048 * 7 = mul-le-mul c w in
+      omega (arith, words-in-length it s)
 
-pub fits-all : (k : Records) (a : ℕ) (s : Rest) → 14336 ≤ a → 2 * countIn s ≤ 4096 → fits (itemOf k) a s ≡ allIn (itemOf k) s
-unfolding fits
-fits-all k a s h n = ap (λ (z : Bool). pick (allIn (itemOf k) s) z false) (le-leb (length (wordsIn (itemOf k) s)) a (omega (arith, words-le k s n))) ∙ itself (allIn (itemOf k) s)
+  pub fits-all : (a : ℕ) → 14336 ≤ a → fits it a s ≡ allIn it s
+  unfolding fits
+  fits-all a h = ap (λ (z : Bool). pick (allIn it s) z false) (le-leb (length (wordsIn it s)) a (omega (arith, words-le))) ∙ itself (allIn it s)
+    where
+      itself : (t : Bool) → pick t true false ≡ t
+      itself true = refl
+      itself false = refl
+
+-- the boxes of all transactions are among the words of a block's list
+list-le : (s : Rest) → countIn (listOf s) ≤ sizeIn s
+unfolding listOf countIn sizeIn size
+list-le gone = omega arith
+list-le (here none) = omega arith
+list-le (here (word w n)) = omega arith
+list-le (here (sub i n)) = omega (arith, few i)
+
+past-le : (s : Rest) → sizeIn (past ids s) ≤ sizeIn s
+unfolding past pastWord sizeIn size
+past-le s = go (ids .ok (wordOf s)) s
+  where
+    go : (c : Bool) (s : Rest) → sizeIn (pick c (pastWord s) gone) ≤ sizeIn s
+    go false s = omega arith
+    go true gone = omega arith
+    go true (here none) = omega arith
+    go true (here (word w n)) = omega arith
+    go true (here (sub i n)) = omega arith
+
+boxes-le : (i : Rest) → length (boxWords i) ≤ 4 * sizeIn i
+unfolding boxWords boxList boxes
+boxes-le i = omega (arith, words-in-length boxes (listOf (past ids i)), list-le (past ids i), past-le i)
+
+inputs-le : (m : Members) → length (inputsOf m) ≤ 4 * size m
+unfolding inputsOf size sizeIn
+inputs-le none = omega arith
+inputs-le (word w n) = omega (arith, inputs-le n)
+inputs-le (sub i n) = omega (arith, length-append (boxWords (here i)) (inputsOf n), boxes-le (here i), inputs-le n)
+
+inputs-in-le : (s : Rest) → length (inputsIn s) ≤ 4 * sizeIn s
+unfolding inputsIn sizeIn
+inputs-in-le gone = omega arith
+inputs-in-le (here m) = inputs-le m
+
+narrow-txs : transactions .width ≤ 7
+unfolding transactions
+narrow-txs = omega arith
+
+pub fits-block : (a b : ℕ) (s : Rest) → 14336 ≤ a → 14336 ≤ b → 2 * sizeIn s ≤ 4096 → fitsBlock a b s ≡ allIn transactions s
+unfolding fitsBlock
+fits-block a b s ha hb n =
+    ap₂ (λ (x y : Bool). pick x y false) (fits-all transactions narrow-txs s n a ha) (le-leb (length (inputsIn s)) b (omega (arith, inputs-in-le s))) ∙ itself (allIn transactions s)
   where
     itself : (t : Bool) → pick t true false ≡ t
     itself true = refl
@@ -140,7 +194,7 @@ fits-all k a s h n = ap (λ (z : Bool). pick (allIn (itemOf k) s) z false) (le-l
 
 module _ (k : Records) (a : ℕ) (h : 14336 ≤ a) (s : Rest) (sm : Small 4096 s) where
   fits-room : fits (itemOf k) a (listOf s) ≡ fits (itemOf k) 14336 (listOf s)
-  fits-room = let n = small-list 4096 s sm .1 in fits-all k a (listOf s) h n ∙ sym (fits-all k 14336 (listOf s) (omega arith) n)
+  fits-room = let n = small-list 4096 s sm .1 in fits-all (itemOf k) (narrow k) (listOf s) n a h ∙ sym (fits-all (itemOf k) (narrow k) (listOf s) n 14336 (omega arith))
 
   past-room : pastItems (itemOf k) a s ≡ pastItems (itemOf k) 14336 s
   unfolding pastItems
@@ -149,6 +203,10 @@ module _ (k : Records) (a : ℕ) (h : 14336 ≤ a) (s : Rest) (sm : Small 4096 s
   count-room : countOf (itemOf k) a (listOf s) ≡ countOf (itemOf k) 14336 (listOf s)
   unfolding countOf
   count-room = ap (λ (z : Bool). pick z (length (wordsIn (itemOf k) (listOf s))) 0) fits-room
+
+module _ (a b : ℕ) (ha : 14336 ≤ a) (hb : 14336 ≤ b) (s : Rest) (sm : Small 4096 s) where
+  block-fits : fitsBlock a b (listOf s) ≡ fitsBlock 14336 14336 (listOf s)
+  block-fits = let n = small-list 4096 s sm .1 in fits-block a b (listOf s) ha hb n ∙ sym (fits-block 14336 14336 (listOf s) (omega arith) (omega arith) n)
 
 module _ (a b : ℕ) (ha : 14336 ≤ a) (hb : 14336 ≤ b) (s : Rest) (sm : Small 4096 s) where
   tx-room : txOf a b s ≡ txOf 14336 14336 s
@@ -201,9 +259,16 @@ module _ (a b : ℕ) (ha : 14336 ≤ a) (hb : 14336 ≤ b) (s : Rest) (sm : Smal
   unfolding rebroadcastOf
   rebroadcast-room = ap₂ (λ (n : ℕ) (z : Rest). whole z (Rebroadcast n)) (count-room Boxes a ha s sm) (past-room Boxes a ha s sm)
 
+  block-room : blockOf a b s ≡ blockOf 14336 14336 s
+  unfolding blockOf txsCount inputsCount pastBlock
+  block-room =
+      let s1 = past number64 s in
+      let e = block-fits a b ha hb s1 (small-past 4096 number64 s sm) in
+      ap (λ (c : Bool). whole (pick c (pastList s1) gone) (Block (record { time = value number64 s; transactions = pick c (length (wordsIn transactions (listOf s1))) 0; inputs = pick c (length (inputsIn (listOf s1))) 0 }))) e
+
   worded-room : (w : List ℕ) → wordedOf w s a b ≡ wordedOf w s 14336 14336
   unfolding wordedOf
-  worded-room w = λ i. pick (same w wTx) (tx-room i) (pick (same w wReturn) (return-room i) (pick (same w wAnswer) (answer-room i) (pick (same w wRebroadcast) (rebroadcast-room i) (changeOf w s))))
+  worded-room w = λ i. pick (same w wTx) (tx-room i) (pick (same w wReturn) (return-room i) (pick (same w wBlock) (block-room i) (pick (same w wAnswer) (answer-room i) (pick (same w wRebroadcast) (rebroadcast-room i) (changeOf w s)))))
 
 pub form-room : (m : Members) (l : List ℕ) (a b : ℕ) → Line m l → 14336 ≤ a → 14336 ≤ b → formOf a b m ≡ formOf 14336 14336 m
 unfolding formOf

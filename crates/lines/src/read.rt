@@ -1,5 +1,6 @@
 // The forms of poolrun, each read from behind its first word. A form's fields are read one behind the other, and it is that form exactly if its list
 // then ends.
+use crate::blocks::block_field;
 use crate::fields::Optional;
 use crate::fields::Verdict;
 use crate::fields::choice;
@@ -20,7 +21,7 @@ use words::ids::Id;
 ghost use Prim.Native.Nat.{_≤_};
 ghost use lib.ListN.{length};
 ghost use Rattle.forms.specs.Text.{part};
-ghost use Rattle.lines.specs.Forms.{FormAt, poolOf, invalidateOf, openOf, topOf, containsOf, spendingOf, feeOf, waitOf, histogramOf, plainOf, ListsAt, txOf, returnOf, answerOf, rebroadcastOf, measureOf, queryOf, changeOf, txOne, txTwo, returnOne, returnTwo, answerOne, rebroadcastOne, AnswerAt, ReadAt, worded, oneOf, twoOf};
+ghost use Rattle.lines.specs.Forms.{FormAt, poolOf, invalidateOf, openOf, topOf, containsOf, spendingOf, feeOf, waitOf, histogramOf, plainOf, ListsAt, txOf, returnOf, blockOf, answerOf, rebroadcastOf, measureOf, queryOf, changeOf, txOne, txTwo, returnOne, returnTwo, blockOne, blockTwo, answerOne, rebroadcastOne, AnswerAt, ReadAt, worded, oneOf, twoOf};
 
 // The settings, in the order of `MempoolConfig`.
 pub struct PoolForm {
@@ -63,10 +64,18 @@ pub struct ReturnForm {
     pub outputs: usize,
 }
 
+// A block. `transactions` counts the words of its records in the first slice, `inputs` those of all their boxes in the second.
+pub struct BlockForm {
+    pub time: u64,
+    pub transactions: usize,
+    pub inputs: usize,
+}
+
 pub enum Form {
     Pool(PoolForm),
     Tx(TxForm),
     Return(ReturnForm),
+    Block(BlockForm),
     // time, id
     Invalidate(u64, Id),
     // time, limit, preheader
@@ -299,6 +308,22 @@ fn take_back(line: &[u8], at: usize, first: &mut [u64], second: &mut [u64]) -> F
     Form::Unread
 }
 
+fn block(line: &[u8], at: usize, first: &mut [u64], second: &mut [u64]) -> Form
+    requires { ⌜ at ≤ length (now line) ⌝ }
+    ensures { λ r. ⌜ ListsAt blockOf (now (line .entry)) at (now (first .entry)) (now (first .exit)) (now (second .entry)) (now (second .exit)) blockOne blockTwo r ⌝ }
+{
+    let time = number64(line, at);
+    let list = block_field(line, time.next, 7, first, second);
+    if end_here(line, list.next, false) {
+        return Form::Block(BlockForm {
+            time: time.value,
+            transactions: list.transactions,
+            inputs: list.inputs,
+        });
+    }
+    Form::Unread
+}
+
 fn answer(line: &[u8], at: usize, first: &mut [u64]) -> Form
     requires { ⌜ at ≤ length (now line) ⌝ }
     ensures { λ r. ⌜ AnswerAt answerOf (now (line .entry)) at (now (first .entry)) (now (first .exit)) answerOne r ⌝ }
@@ -400,6 +425,9 @@ fn worded(line: &[u8], start: usize, end: usize, first: &mut [u64], second: &mut
     if same_word(line, start, end, b"return") {
         return take_back(line, end, first, second);
     }
+    if same_word(line, start, end, b"block") {
+        return block(line, end, first, second);
+    }
     if same_word(line, start, end, b"answer") {
         return answer(line, end, first);
     }
@@ -409,7 +437,8 @@ fn worded(line: &[u8], start: usize, end: usize, first: &mut [u64], second: &mut
     change(line, start, end)
 }
 
-// Reads a line. The words of its form's lists go into the two lent slices: inputs, flags or box ids into the first, outputs into the second.
+// Reads a line. The words of its form's lists go into the two lent slices: inputs, flags, box ids or a block's
+// transactions into the first, outputs or a block's inputs into the second.
 pub fn read_form(line: &[u8], first: &mut [u64], second: &mut [u64]) -> Form
     ensures { λ r. ⌜ ReadAt (now (line .entry)) (now (first .entry)) (now (first .exit)) (now (second .entry)) (now (second .exit)) r ⌝ }
 {

@@ -51,16 +51,19 @@ slice-aggregate-same-word-3 c = search needs
 same-word-requires-3 : tie.Need-same-word-requires-3
 same-word-requires-3 c κs = search needs
 
-answer-requires : tie.Need-answer-requires
-answer-requires c κs = search needs
+block-requires : tie.Need-block-requires
+block-requires c κs = search needs
 
 same-length-5 : tie.Need-same-length-5
 same-length-5 c = search needs
 
+same-length-6 : tie.Need-same-length-6
+same-length-6 c = search needs
+
 returns-3 : tie.Need-returns-3
 returns-3 c =
-    let s = c .before .before .before .before .before .before .before .before .before .before .before .before .before .before .before .before in
-    L.worded-answer _ (s .args .line .now) (s .args .end) (s .args .first .now) _ (s .args .second .now) _ _ (sym (c .before .before .before .before .before .before .before .before .before .before .before .same-word .ensures) ∙ c .before .before .before .before .before .before .before .before .before .before .if1 .left) (sym (c .before .before .before .before .before .before .before .before .same-word2 .ensures) ∙ c .before .before .before .before .before .before .before .if2 .left) refl (sym (c .before .before .before .before .before .same-word3 .ensures) ∙ c .before .before .before .before .if3 .taken) (c .before .before .answer .ensures)
+    let s = c .before .before .before .before .before .before .before .before .before .before .before .before .before .before .before .before .before .before .before in
+    L.worded-block _ (s .args .line .now) (s .args .end) (s .args .first .now) _ (s .args .second .now) _ _ (sym (c .before .before .before .before .before .before .before .before .before .before .before .before .before .before .same-word .ensures) ∙ c .before .before .before .before .before .before .before .before .before .before .before .before .before .if1 .left) (sym (c .before .before .before .before .before .before .before .before .before .before .before .same-word2 .ensures) ∙ c .before .before .before .before .before .before .before .before .before .before .if2 .left) (sym (c .before .before .before .before .before .before .before .before .same-word3 .ensures) ∙ c .before .before .before .before .before .before .before .if3 .taken) (c .before .before .before .before .block .ensures)
 
 slice-aggregate-same-word-4 : tie.Need-slice-aggregate-same-word-4
 slice-aggregate-same-word-4 c = search needs
@@ -68,24 +71,41 @@ slice-aggregate-same-word-4 c = search needs
 same-word-requires-4 : tie.Need-same-word-requires-4
 same-word-requires-4 c κs = search needs
 
-rebroadcast-requires : tie.Need-rebroadcast-requires
-rebroadcast-requires c κs = search needs
+answer-requires : tie.Need-answer-requires
+answer-requires c κs = search needs
 
-same-length-6 : tie.Need-same-length-6
-same-length-6 c = search needs
+same-length-7 : tie.Need-same-length-7
+same-length-7 c = search needs
 
 returns-4 : tie.Need-returns-4
 returns-4 c =
     let s = c .before .before .before .before .before .before .before .before .before .before .before .before .before .before .before .before .before .before .before in
-    L.worded-rebroadcast _ (s .args .line .now) (s .args .end) (s .args .first .now) _ (s .args .second .now) _ _ (sym (c .before .before .before .before .before .before .before .before .before .before .before .before .before .before .same-word .ensures) ∙ c .before .before .before .before .before .before .before .before .before .before .before .before .before .if1 .left) (sym (c .before .before .before .before .before .before .before .before .before .before .before .same-word2 .ensures) ∙ c .before .before .before .before .before .before .before .before .before .before .if2 .left) refl (sym (c .before .before .before .before .before .before .before .before .same-word3 .ensures) ∙ c .before .before .before .before .before .before .before .if3 .left) (sym (c .before .before .before .before .before .same-word4 .ensures) ∙ c .before .before .before .before .if4 .taken) (c .before .before .rebroadcast .ensures)
+    L.worded-answer _ (s .args .line .now) (s .args .end) (s .args .first .now) _ (s .args .second .now) _ _ (sym (c .before .before .before .before .before .before .before .before .before .before .before .before .before .before .same-word .ensures) ∙ c .before .before .before .before .before .before .before .before .before .before .before .before .before .if1 .left) (sym (c .before .before .before .before .before .before .before .before .before .before .before .same-word2 .ensures) ∙ c .before .before .before .before .before .before .before .before .before .before .if2 .left) (sym (c .before .before .before .before .before .before .before .before .same-word3 .ensures) ∙ c .before .before .before .before .before .before .before .if3 .left) refl (sym (c .before .before .before .before .before .same-word4 .ensures) ∙ c .before .before .before .before .if4 .taken) (c .before .before .answer .ensures)
+
+slice-aggregate-same-word-5 : tie.Need-slice-aggregate-same-word-5
+slice-aggregate-same-word-5 c = search needs
+
+same-word-requires-5 : tie.Need-same-word-requires-5
+same-word-requires-5 c κs = search needs
+
+rebroadcast-requires : tie.Need-rebroadcast-requires
+rebroadcast-requires c κs = search needs
+
+same-length-8 : tie.Need-same-length-8
+same-length-8 c = search needs
+
+returns-5 : tie.Need-returns-5
+returns-5 c =
+    let s = c .before .before .before .before .before .before .before .before .before .before .before .before .before .before .before .before .before .before .before .before .before .before in
+    L.worded-rebroadcast _ (s .args .line .now) (s .args .end) (s .args .first .now) _ (s .args .second .now) _ _ (sym (c .before .before .before .before .before .before .before .before .before .before .before .before .before .before .before .before .before .same-word .ensures) ∙ c .before .before .before .before .before .before .before .before .before .before .before .before .before .before .before .before .if1 .left) (sym (c .before .before .before .before .before .before .before .before .before .before .before .before .before .before .same-word2 .ensures) ∙ c .before .before .before .before .before .before .before .before .before .before .before .before .before .if2 .left) (sym (c .before .before .before .before .before .before .before .before .before .before .before .same-word3 .ensures) ∙ c .before .before .before .before .before .before .before .before .before .before .if3 .left) refl (sym (c .before .before .before .before .before .before .before .before .same-word4 .ensures) ∙ c .before .before .before .before .before .before .before .if4 .left) (sym (c .before .before .before .before .before .same-word5 .ensures) ∙ c .before .before .before .before .if5 .taken) (c .before .before .rebroadcast .ensures)
 
 change-requires : tie.Need-change-requires
 change-requires c κs = search needs
 
-returns-5 : tie.Need-returns-5
-returns-5 c =
-    let s = c .before .before .before .before .before .before .before .before .before .before .before .before .before .before .before .before in
-    L.worded-change _ (s .args .line .now) (s .args .end) (s .args .first .now) _ (s .args .second .now) _ _ (sym (c .before .before .before .before .before .before .before .before .before .before .before .same-word .ensures) ∙ c .before .before .before .before .before .before .before .before .before .before .if1 .left) (sym (c .before .before .before .before .before .before .before .before .same-word2 .ensures) ∙ c .before .before .before .before .before .before .before .if2 .left) refl (sym (c .before .before .before .before .before .same-word3 .ensures) ∙ c .before .before .before .before .if3 .left) (sym (c .before .before .same-word4 .ensures) ∙ c .before .if4 .left) refl (c .change .ensures)
+returns-6 : tie.Need-returns-6
+returns-6 c =
+    let s = c .before .before .before .before .before .before .before .before .before .before .before .before .before .before .before .before .before .before .before in
+    L.worded-change _ (s .args .line .now) (s .args .end) (s .args .first .now) _ (s .args .second .now) _ _ (sym (c .before .before .before .before .before .before .before .before .before .before .before .before .before .before .same-word .ensures) ∙ c .before .before .before .before .before .before .before .before .before .before .before .before .before .if1 .left) (sym (c .before .before .before .before .before .before .before .before .before .before .before .same-word2 .ensures) ∙ c .before .before .before .before .before .before .before .before .before .before .if2 .left) (sym (c .before .before .before .before .before .before .before .before .same-word3 .ensures) ∙ c .before .before .before .before .before .before .before .if3 .left) refl (sym (c .before .before .before .before .before .same-word4 .ensures) ∙ c .before .before .before .before .if4 .left) (sym (c .before .before .same-word5 .ensures) ∙ c .before .if5 .left) refl (c .change .ensures)
 
 pub worded-spec : {M : Type 1} → statement M
 worded-spec =
@@ -105,13 +125,19 @@ worded-spec =
     returns-2
     slice-aggregate-same-word-3
     same-word-requires-3
-    answer-requires
+    block-requires
     same-length-5
+    same-length-6
     returns-3
     slice-aggregate-same-word-4
     same-word-requires-4
-    rebroadcast-requires
-    same-length-6
+    answer-requires
+    same-length-7
     returns-4
+    slice-aggregate-same-word-5
+    same-word-requires-5
+    rebroadcast-requires
+    same-length-8
+    returns-5
     change-requires
-    returns-5)
+    returns-6)
