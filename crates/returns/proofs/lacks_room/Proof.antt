@@ -1,0 +1,25 @@
+-- `returns::lacks_room` meets its contract: what is not room is a lack of it, for as many records as both lists have. Assumes nothing.
+use borrow.Author.Needs.{needs}
+use Rattle.returns.specs.Laws.{not-not}
+use Rattle.returns.proofs.lacks_room.Statement.{statement}
+use Rattle.returns.proofs.lacks_room.Tie as tie
+
+count-records-requires : tie.Need-count-records-requires
+count-records-requires c κs = search needs
+
+count-records-requires-2 : tie.Need-count-records-requires-2
+count-records-requires-2 c κs = search needs
+
+add-needed : tie.Need-add-needed
+add-needed c = search needs
+
+room-for-requires : tie.Need-room-for-requires
+room-for-requires c κs = search needs
+
+returns : tie.Need-returns
+returns c = rw (c .room-for .ensures, not-not, c .before .before .count-records .ensures, c .before .count-records2 .ensures)
+
+pub lacks-room-spec : {M : Type 1} → statement M
+lacks-room-spec =
+    tie.close
+    (tie.spec count-records-requires count-records-requires-2 add-needed room-for-requires returns)

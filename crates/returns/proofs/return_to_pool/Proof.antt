@@ -1,0 +1,75 @@
+-- `returns::return_to_pool` meets its contract: counts that do not fit change nothing; a code is the refusal of `returned`, and with none the
+-- transaction enters. Assumes nothing.
+use borrow.Author.Needs.{needs}
+use mathlib.Core.Path.{refl, ap}
+use Rattle.types.specs.Outcomes.{refused, returnedOf}
+use Rattle.pool.specs.Laws.{fits-true, fits-holds}
+use Rattle.returns.specs.Numbers.{ofReturn, return-numbered, return-unfit}
+use Rattle.returns.specs.Laws.{met, was-met, not-met, untouched, return-stopped, return-room, return-entered}
+use Rattle.returns.proofs.return_to_pool.Statement.{statement}
+use Rattle.returns.proofs.return_to_pool.Tie as tie
+
+fits-requires : tie.Need-fits-requires
+fits-requires c κs = search needs
+
+unfit-requires : tie.Need-unfit-requires
+unfit-requires c κs = search needs
+
+same-length : tie.Need-same-length
+same-length c = refl
+
+same-length-2 : tie.Need-same-length-2
+same-length-2 c = refl
+
+returns : tie.Need-returns
+unfolding returnedOf
+returns c = (
+  λ k p f. not-met (c .before .before .fits2 .ensures) (c .before .if1 .taken) (fits-holds _ _ _ (f .tests .pool)),
+  (
+    return-unfit (c .before .before .before .before .before .before .before .before .before .before .args .mempool .pass .open) (c .unfit .ensures),
+    λ _. untouched _ _ _ (ap (λ n. refused n 0) (c .unfit .ensures)),
+  ),
+)
+
+check-return-requires : tie.Need-check-return-requires
+check-return-requires c κs = fits-true _ _ _ (met (c .before .before .before .fits2 .ensures) (c .before .before .if1 .left))
+
+same-length-3 : tie.Need-same-length-3
+same-length-3 c = refl
+
+same-length-4 : tie.Need-same-length-4
+same-length-4 c = refl
+
+returns-2 : tie.Need-returns-2
+returns-2 c = (
+  return-stopped _ _ _ _ _ _ (c .before .check-return .ensures) (c .if2 .taken),
+  (
+    return-numbered _ _ _ _ _ _ _ (c .before .check-return .ensures) (c .if2 .taken),
+    was-met (c .before .before .before .before .before .fits2 .ensures) (c .before .before .before .before .if1 .left),
+  ),
+)
+
+returned-entry-requires : tie.Need-returned-entry-requires
+returned-entry-requires c κs = search needs
+
+enter-requires : tie.Need-enter-requires
+enter-requires c κs = return-room _ _ _ _ _ _ (c .before .before .before .before .before .check-return .ensures) (c .before .before .before .before .if2 .left)
+
+same-length-5 : tie.Need-same-length-5
+same-length-5 c = c .before .before .before .before .enter .kept .0
+
+same-length-6 : tie.Need-same-length-6
+same-length-6 c = c .before .before .before .before .enter .kept .1 .0
+
+returns-3 : tie.Need-returns-3
+unfolding ofReturn
+returns-3 c = (
+  return-entered _ _ _ _ _ _ (c .before .before .before .before .before .before .before .before .before .before .check-return .ensures) (c .before .before .before .before .before .before .before .before .before .if2 .left) _ _ _ _ (c .before .before .before .before .before .before .before .returned-entry .ensures) (c .before .before .before .before .enter .ensures),
+  (
+    refl,
+    was-met (c .before .before .before .before .before .before .before .before .before .before .before .before .before .before .fits2 .ensures) (c .before .before .before .before .before .before .before .before .before .before .before .before .before .if1 .left),
+  ),
+)
+
+pub return-to-pool-spec : {M : Type 1} → statement M
+return-to-pool-spec = tie.close (tie.spec fits-requires unfit-requires same-length same-length-2 returns check-return-requires same-length-3 same-length-4 returns-2 returned-entry-requires enter-requires same-length-5 same-length-6 returns-3)

@@ -1,0 +1,5 @@
+pub mod Returns
+pub mod Edges
+pub mod Post
+pub mod Numbers
+pub mod Laws

@@ -1,0 +1,307 @@
+// A return and an invalidation: a transaction that a rolled back block gives back to the pool, and one that was found invalid. The store is
+// plain words that the caller lends, the state goes in and out by value.
+use arguments::count_records;
+use arguments::height_key;
+use arguments::is_whole;
+use entries::fields::PoolEntry;
+use entries::fields::ValidationCost;
+use entries::table::is_pooled;
+use expiring_cache::cache_room;
+use pool::fits;
+use pool::remove;
+use pool::room_for;
+use store::unfit;
+use types::Counts;
+use types::InvalidateOutcome;
+use types::Mempool;
+use types::MempoolConfig;
+use types::ReturnOutcome;
+use types::Source;
+use weight::fee_per_factor;
+use words::ids::Id;
+ghost use mathlib.Core.Path.{_≡_};
+ghost use mathlib.Core.Bool.{true, false, _&&_};
+ghost use mathlib.Core.List.{List, [], _∷_};
+ghost use Prim.Native.Nat.{ℕ, _+_, _≤_, max};
+ghost use Rattle.words.specs.Lists.{pick};
+ghost use Rattle.words.specs.Ids.{idOf};
+ghost use Rattle.types.specs.Outcomes.{returnedOf, invalidatedOf};
+ghost use Rattle.arguments.specs.Arguments.{whole, records};
+ghost use Rattle.expiring_cache.specs.Layout.{CacheOk, cacheRoom};
+ghost use Rattle.entries.specs.Layout.{entryOf, entriesRoom};
+ghost use Rattle.boxes.specs.Layout.{boxesRoom};
+ghost use Rattle.boxes.specs.Flat.{countOf, idsOf};
+ghost use Rattle.pool.specs.Pool.{PoolFits, fitsTest, Room, tablesOf, noRoom, insertTx, removeTx};
+ghost use Rattle.store.specs.World.{worldOf};
+ghost use Rattle.store.specs.Fits.{Fits};
+ghost use Rattle.returns.specs.Returns.{returnRefusal, returnedEntry, returned, invalidated};
+ghost use Rattle.returns.specs.Post.{Meets, Untouched, cacheFits, Tabled, Cached};
+ghost use Rattle.returns.specs.Numbers.{ofReturn, ofInvalidation};
+
+// The greatest size.
+const MAX_TX_SIZE: u64 = 98304;
+
+// A transaction that is given back, but for its lists of inputs and outputs. The fee is read for its weight; `source` is read by nobody, and stands
+// here because it is a field of the Rust's.
+pub struct UnconfirmedTx {
+    pub id: Id,
+    pub fee: u64,
+    pub size: u64,
+    pub cost: u32,
+    pub validation_cost: ValidationCost,
+    pub created: u64,
+    pub last_checked: u64,
+    pub source: Source,
+}
+
+// What the calls hand back: the state, and what they answer.
+pub struct Returned {
+    pub mempool: Mempool,
+    pub outcome: ReturnOutcome,
+}
+
+pub struct Invalidated {
+    pub mempool: Mempool,
+    pub outcome: InvalidateOutcome,
+}
+
+// ---- a return
+
+// Whether both lists are whole numbers of records.
+fn are_whole(inputs: &[u64], outputs: &[u64]) -> bool
+    ensures { λ r. ⌜ r ≡ (whole 4 (now (inputs .entry)) && whole 5 (now (outputs .entry))) ⌝ }
+{
+    if is_whole(inputs, 4) {
+        return is_whole(outputs, 5);
+    }
+    false
+}
+
+// Whether the entry, or the records of the inputs and outputs, find no room.
+fn lacks_room(
+    entries: &[u64],
+    boxes: &[u64],
+    counts: Counts,
+    inputs: &[u64],
+    outputs: &[u64],
+) -> bool
+    requires { ⌜ PoolFits (now entries) (now boxes) counts ⌝ }
+    ensures { λ r. ⌜ r ≡ noRoom (entriesRoom (now (entries .entry))) (boxesRoom (now (boxes .entry))) (tablesOf (now (entries .entry)) (now (boxes .entry)) counts) (records 4 (now (inputs .entry)) + records 5 (now (outputs .entry))) ⌝ }
+{
+    let needed = count_records(inputs, 4) + count_records(outputs, 5);
+    !room_for(entries, boxes, counts, needed)
+}
+
+// Refusals 23 and 27, in this order.
+fn pool_code(known: bool, full: bool) -> u64
+    ensures { λ r. ⌜ r ≡ pick known 23 (pick full 27 0) ⌝ }
+{
+    if known {
+        return 23;
+    }
+    if full {
+        return 27;
+    }
+    0
+}
+
+// Refusals 20, 1, 3, 23, 27: the number of the first that is met, and 0 where none is.
+fn check_return(
+    entries: &[u64],
+    boxes: &[u64],
+    mempool: Mempool,
+    tx: UnconfirmedTx,
+    inputs: &[u64],
+    outputs: &[u64],
+) -> u64
+    requires { ⌜ PoolFits (now entries) (now boxes) (mempool .counts) ⌝ }
+    ensures { λ r. ⌜ r ≡ returnRefusal (entriesRoom (now (entries .entry))) (boxesRoom (now (boxes .entry))) mempool (tablesOf (now (entries .entry)) (now (boxes .entry)) (mempool .counts)) tx (now (inputs .entry)) (now (outputs .entry)) ⌝ }
+{
+    if mempool.pass.open {
+        return 20;
+    }
+    if !are_whole(inputs, outputs) {
+        return 1;
+    }
+    if MAX_TX_SIZE < tx.size {
+        return 3;
+    }
+    let counts = mempool.counts;
+    let known = is_pooled(entries, counts.pooled, tx.id);
+    let full = lacks_room(entries, boxes, counts, inputs, outputs);
+    pool_code(known, full)
+}
+
+// What it costs: as given, not raised to its size.
+fn cost_of(tx: UnconfirmedTx) -> u64
+    ensures { λ r. ⌜ r ≡ tx .cost ⌝ }
+{
+    tx.cost as u64
+}
+
+// Its entry: cost and times as they are given, the weight its base.
+fn returned_entry(
+    config: MempoolConfig,
+    tx: UnconfirmedTx,
+    inputs: &[u64],
+    outputs: &[u64],
+) -> PoolEntry
+    ensures { λ r. ⌜ entryOf r ≡ returnedEntry config tx (now (inputs .entry)) (now (outputs .entry)) ⌝ }
+{
+    let id = tx.id;
+    let measured = tx.validation_cost;
+    let cost = cost_of(tx);
+    let strategy = config.fee_strategy;
+    let base = fee_per_factor(tx.fee, tx.size, cost, strategy);
+    PoolEntry {
+        id,
+        weight: base,
+        base,
+        size: tx.size,
+        cost,
+        validation_cost: measured,
+        created: tx.created,
+        last_checked: tx.last_checked,
+        height_key: height_key(outputs, 5, 4),
+        inputs: count_records(inputs, 4) as u64,
+    }
+}
+
+// Enters it in the pool, and does nothing else.
+fn enter(
+    entries: &mut [u64],
+    boxes: &mut [u64],
+    mempool: Mempool,
+    e: PoolEntry,
+    inputs: &[u64],
+    outputs: &[u64],
+) -> Mempool
+    requires { ⌜ Room (now entries) (now boxes) (mempool .counts) (countOf 4 (now inputs) + countOf 5 (now outputs)) ⌝ }
+    ensures { λ r. ⌜ Tabled (now (entries .exit)) (now (boxes .exit)) mempool r (insertTx (entryOf e) (idsOf 4 (now (inputs .entry))) (idsOf 5 (now (outputs .entry))) (tablesOf (now (entries .entry)) (now (boxes .entry)) (mempool .counts))) ⌝ }
+{
+    let before = mempool.counts;
+    let counts = pool::insert(entries, boxes, before, e, inputs, 4, outputs, 5);
+    Mempool { counts, ..mempool }
+}
+
+// Gives a transaction back to the pool, without a verdict. On words and counts that no start and calls left it is safe, and answers with a
+// number of this call.
+pub fn return_to_pool(
+    entries: &mut [u64],
+    boxes: &mut [u64],
+    mempool: Mempool,
+    tx: UnconfirmedTx,
+    inputs: &[u64],
+    outputs: &[u64],
+) -> Returned
+    ensures { λ r. ⌜ ((k p : List ℕ) → Fits (now (entries .entry)) (now (boxes .entry)) k p mempool →
+        Meets mempool (r .mempool) (returnedOf (r .outcome)) (now (entries .exit)) (now (boxes .exit)) k p
+        (returned (entriesRoom (now (entries .entry))) (boxesRoom (now (boxes .entry))) mempool (worldOf (now (entries .entry)) (now (boxes .entry)) k p mempool) tx (now (inputs .entry)) (now (outputs .entry)))) ⌝ }
+    ensures { λ r. ⌜ ofReturn (r .outcome) ≡ true ⌝ }
+    ensures { λ r. ⌜ (fitsTest (now (entries .entry)) (now (boxes .entry)) (mempool .counts) ≡ false →
+        Untouched mempool (r .mempool) (returnedOf (r .outcome)) (now (entries .entry) ∷ now (boxes .entry) ∷ []) (now (entries .exit) ∷ now (boxes .exit) ∷ [])) ⌝ }
+{
+    let counts = mempool.counts;
+    if !fits(entries, boxes, counts) {
+        return Returned {
+            mempool,
+            outcome: ReturnOutcome::NotReturned(unfit(mempool.pass.open)),
+        };
+    }
+    let code = check_return(entries, boxes, mempool, tx, inputs, outputs);
+    if code != 0 {
+        return Returned {
+            mempool,
+            outcome: ReturnOutcome::NotReturned(code),
+        };
+    }
+    let config = mempool.config;
+    let e = returned_entry(config, tx, inputs, outputs);
+    let after = enter(entries, boxes, mempool, e, inputs, outputs);
+    Returned {
+        mempool: after,
+        outcome: ReturnOutcome::Returned,
+    }
+}
+
+// ---- an invalidation
+
+// Whether the counts of pool and cache fit the words that are lent, and the cache has room for its capacity.
+fn fits_cache(entries: &[u64], boxes: &[u64], cache: &[u64], mempool: Mempool) -> bool
+    ensures { λ r. ⌜ r ≡ cacheFits (now (entries .entry)) (now (boxes .entry)) (now (cache .entry)) mempool ⌝ }
+{
+    let counts = mempool.counts;
+    if !fits(entries, boxes, counts) {
+        return false;
+    }
+    let room = cache_room(cache);
+    if room < mempool.cached {
+        return false;
+    }
+    if room == 0 {
+        return false;
+    }
+    mempool.config.invalidation_capacity <= room
+}
+
+// Takes it out of the pool with its records, where it is there.
+fn take_out(entries: &mut [u64], boxes: &mut [u64], mempool: Mempool, id: Id) -> Mempool
+    requires { ⌜ PoolFits (now entries) (now boxes) (mempool .counts) ⌝ }
+    ensures { λ r. ⌜ Tabled (now (entries .exit)) (now (boxes .exit)) mempool r (removeTx (idOf id) (tablesOf (now (entries .entry)) (now (boxes .entry)) (mempool .counts))) ⌝ }
+{
+    let before = mempool.counts;
+    let counts = remove(entries, boxes, before, id);
+    Mempool { counts, ..mempool }
+}
+
+// Puts its id into the cache, where it is not there.
+fn remember(cache: &mut [u64], mempool: Mempool, time: u64, id: Id) -> Mempool
+    requires { ⌜ CacheOk (now cache) (mempool .cached) ⌝ }
+    requires { ⌜ max (mempool .config .«invalidation_capacity») 1 ≤ cacheRoom (now cache) ⌝ }
+    ensures { λ r. ⌜ Cached (now (cache .entry)) (now (cache .exit)) mempool r time (idOf id) ⌝ }
+{
+    let cached = expiring_cache::insert(
+        cache,
+        mempool.cached,
+        mempool.config.invalidation_capacity,
+        time,
+        id,
+    );
+    Mempool { cached, ..mempool }
+}
+
+// Takes a transaction out of the pool, where it is there, and remembers its id as invalid. Safe as `return_to_pool` is.
+pub fn invalidate(
+    entries: &mut [u64],
+    boxes: &mut [u64],
+    cache: &mut [u64],
+    mempool: Mempool,
+    time: u64,
+    id: Id,
+) -> Invalidated
+    ensures { λ r. ⌜ ((p : List ℕ) → Fits (now (entries .entry)) (now (boxes .entry)) (now (cache .entry)) p mempool →
+        Meets mempool (r .mempool) (invalidatedOf (r .outcome)) (now (entries .exit)) (now (boxes .exit)) (now (cache .exit)) p
+        (invalidated mempool (worldOf (now (entries .entry)) (now (boxes .entry)) (now (cache .entry)) p mempool) time (idOf id))) ⌝ }
+    ensures { λ r. ⌜ ofInvalidation (r .outcome) ≡ true ⌝ }
+    ensures { λ r. ⌜ (cacheFits (now (entries .entry)) (now (boxes .entry)) (now (cache .entry)) mempool ≡ false →
+        Untouched mempool (r .mempool) (invalidatedOf (r .outcome)) (now (entries .entry) ∷ now (boxes .entry) ∷ now (cache .entry) ∷ []) (now (entries .exit) ∷ now (boxes .exit) ∷ now (cache .exit) ∷ [])) ⌝ }
+{
+    if !fits_cache(entries, boxes, cache, mempool) {
+        return Invalidated {
+            mempool,
+            outcome: InvalidateOutcome::NotInvalidated(unfit(mempool.pass.open)),
+        };
+    }
+    if mempool.pass.open {
+        return Invalidated {
+            mempool,
+            outcome: InvalidateOutcome::NotInvalidated(20),
+        };
+    }
+    let without = take_out(entries, boxes, mempool, id);
+    let after = remember(cache, without, time, id);
+    Invalidated {
+        mempool: after,
+        outcome: InvalidateOutcome::Invalidated,
+    }
+}
