@@ -1,24 +1,79 @@
-// The pool's functions for C and Rust: numbers pass as themselves, a slice as a pointer and a length.
-ghost use mathlib.Core.Path.{_≡_};
-ghost use Rattle.weight.specs.Weight.{feePerFactor};
-ghost use Rattle.words.specs.Ids.{idOf};
-ghost use Rattle.host.specs.Host.{strategyOf, rankOf};
+// The pool's calls for C and Rust. A number passes as itself, a slice as a pointer and a length (in words): a slice named below is two
+// arguments, in this order. Nothing is required of the caller but that each slice lies in memory of its own; on words and lengths of any kind a
+// call is safe, and answers.
+//
+//     typedef uint64_t u64;
+//     u64 gunthyd_fee_per_factor(u64 fee, u64 size, u64 cost, u64 by_cycle);
+//     u64 gunthyd_find_entry(const u64 *entries, size_t entries_len, size_t pooled, u64 a, u64 b, u64 c, u64 d);
+//     u64 gunthyd_start(const u64 *entries, size_t entries_len, const u64 *boxes, size_t boxes_len, const u64 *cache, size_t cache_len,
+//                       const u64 *peers, size_t peers_len, u64 *state, size_t state_len);
+//     u64 gunthyd_process(u64 *entries, size_t entries_len, u64 *boxes, size_t boxes_len, u64 *cache, size_t cache_len,
+//                         u64 *peers, size_t peers_len, u64 *answer, size_t answer_len, u64 *state, size_t state_len,
+//                         const u64 *sub, size_t sub_len, const u64 *inputs, size_t inputs_len, const u64 *outputs, size_t outputs_len);
+//     u64 gunthyd_len(const u64 *state, size_t state_len);
+//     u64 gunthyd_contains(const u64 *entries, size_t entries_len, const u64 *cache, size_t cache_len, const u64 *state, size_t state_len,
+//                          u64 time, u64 a, u64 b, u64 c, u64 d);
+//     u64 gunthyd_spending_tx(const u64 *entries, size_t entries_len, const u64 *boxes, size_t boxes_len, const u64 *state, size_t state_len,
+//                             u64 *answer, size_t answer_len, u64 a, u64 b, u64 c, u64 d);
+//     u64 gunthyd_top(const u64 *entries, size_t entries_len, const u64 *state, size_t state_len, u64 *answer, size_t answer_len, size_t limit);
+//
+// a, b, c, d are an id's four words, the first bytes first. Lent tables: entries 14 words each, boxes 10, cache 5, peers 2 (docs/DECISIONS.md, D1).
+//
+//     state, 25 words                                   a submission, 11 words
+//      0 capacity               9 pooled                 0 time
+//      1 min_fee               10 records                1 to 4 id
+//      2 strategy: 0 by byte   11 cached                 5 size
+//      3 cleanup_interval      12 interblock_cost        6 preheader (low 32 bits)
+//      4 rebroadcast_count     13 peers in use           7 source: 0 local, else a peer
+//      5 invalidation_ttl      14 pass open              8 peer
+//      6 invalidation_capacity 15 candidate out          9 verdict: 0 absent, 1 invalid, else valid
+//      7 cost_per_block        16 to 19 its id          10 cost
+//      8 cost_per_peer_per_    20 pass time
+//        block                 21 limit
+//                              22 preheader (low 32 bits)
+//                              23 spent
+//                              24 ids written by the last changing call
+//
+//     answers of start and process                      answers of queries
+//     0 ready, accepted                                 len: the number pooled; top: how many entries were written
+//     100 replaced, word 24 ids written                 contains: 1 yes, 0 no
+//     101 verdict needed                                spending_tx: 1 written to the first 6 words, 0 none
+//     n refusal n; at 29 word 24 ids written            2^64-1-n refusal n
+//
+// Too few words of a state or a submission are refusal 1, and nothing changes. Start takes its settings from words 0 to 8 and clears 9 to 24;
+// process changes 9 to 13 and 24, and no other word of the state.
+pub mod codes;
+pub mod layout;
+pub mod queries;
+
+use crate::codes::code_of;
+use crate::codes::written_of;
+use crate::layout::STATE_WORDS;
+use crate::layout::SUBMISSION_WORDS;
+use crate::layout::clear;
+use crate::layout::load_config;
+use crate::layout::load_state;
+use crate::layout::load_submission;
+use crate::layout::store_left;
+use crate::layout::strategy_of;
 use entries::fields::entries_room;
 use entries::table::Place;
 use entries::table::find_entry;
-use types::FeeStrategy;
+use mempool::start;
+use process::process;
+use types::StartOutcome;
 use weight::fee_per_factor;
 use words::ids::Id;
+ghost use mathlib.Core.Path.{_≡_};
+ghost use Prim.Native.Nat.{_≤_};
+ghost use lib.ListN.{length};
+ghost use Rattle.weight.specs.Weight.{feePerFactor};
+ghost use Rattle.words.specs.Ids.{idOf};
+ghost use Rattle.host.specs.Host.{strategyOf, rankOf};
+ghost use Rattle.host.specs.Calls.{lent, Ran, Submitted};
+ghost use Rattle.host.specs.Starts.{Started};
 
-// A word of the C side: 0 is by byte, any other by cycle.
-fn strategy_of(word: u64) -> FeeStrategy
-    ensures { λ r. ⌜ r ≡ strategyOf word ⌝ }
-{
-    if word == 0 {
-        return FeeStrategy::FeePerByte;
-    }
-    FeeStrategy::FeePerCycle
-}
+// ---- by numbers alone
 
 // The base weight of a transaction.
 #[no_mangle]
@@ -49,4 +104,108 @@ pub extern "C" fn gunthyd_find_entry(
         Place::At(i) => i as u64,
         Place::Nowhere => u64::MAX,
     }
+}
+
+// ---- a start
+
+// Starts an empty pool under the settings of the state.
+#[no_mangle]
+pub extern "C" fn gunthyd_start(
+    entries: &[u64],
+    boxes: &[u64],
+    cache: &[u64],
+    peers: &[u64],
+    state: &mut [u64],
+) -> u64
+    ensures { λ r. ⌜ Started (now (entries .entry)) (now (boxes .entry)) (now (cache .entry)) (now (peers .entry)) (now (state .entry)) (now (state .exit)) r ⌝ }
+{
+    if state.len() < STATE_WORDS {
+        return 1;
+    }
+    let config = load_config(state);
+    let outcome = start(entries, boxes, cache, peers.len() / 2, config);
+    match outcome {
+        StartOutcome::Ready(_) => {
+            clear(state);
+            0
+        }
+        StartOutcome::NotStarted(n) => n,
+    }
+}
+
+// ---- a submission
+
+// Reads, submits, stores back.
+fn submit(
+    entries: &mut [u64],
+    boxes: &mut [u64],
+    cache: &mut [u64],
+    peers: &mut [u64],
+    answer: &mut [u64],
+    state: &mut [u64],
+    sub: &[u64],
+    inputs: &[u64],
+    outputs: &[u64],
+) -> u64
+    requires { ⌜ 25 ≤ length (now state) ⌝ }
+    requires { ⌜ 11 ≤ length (now sub) ⌝ }
+    ensures { λ r. ⌜ Ran
+        (lent (now (entries .entry)) (now (boxes .entry)) (now (cache .entry)) (now (peers .entry)) (now (answer .entry)))
+        (lent (now (entries .exit)) (now (boxes .exit)) (now (cache .exit)) (now (peers .exit)) (now (answer .exit)))
+        (now (state .entry)) (now (state .exit)) (now (sub .entry)) (now (inputs .entry)) (now (outputs .entry)) r ⌝ }
+{
+    let mempool = load_state(state);
+    let submission = load_submission(sub);
+    let processed = process(
+        entries,
+        boxes,
+        cache,
+        peers,
+        answer,
+        mempool,
+        submission,
+        inputs,
+        outputs,
+    );
+    let left = processed.mempool;
+    let outcome = processed.outcome;
+    store_left(state, left, written_of(outcome));
+    code_of(outcome)
+}
+
+// Submits a transaction.
+#[no_mangle]
+pub extern "C" fn gunthyd_process(
+    entries: &mut [u64],
+    boxes: &mut [u64],
+    cache: &mut [u64],
+    peers: &mut [u64],
+    answer: &mut [u64],
+    state: &mut [u64],
+    sub: &[u64],
+    inputs: &[u64],
+    outputs: &[u64],
+) -> u64
+    ensures { λ r. ⌜ Submitted
+        (lent (now (entries .entry)) (now (boxes .entry)) (now (cache .entry)) (now (peers .entry)) (now (answer .entry)))
+        (lent (now (entries .exit)) (now (boxes .exit)) (now (cache .exit)) (now (peers .exit)) (now (answer .exit)))
+        (now (state .entry)) (now (state .exit)) (now (sub .entry)) (now (inputs .entry)) (now (outputs .entry)) r ⌝ }
+{
+    if state.len() < STATE_WORDS {
+        return 1;
+    }
+    if sub.len() < SUBMISSION_WORDS {
+        return 1;
+    }
+    submit(
+        entries,
+        boxes,
+        cache,
+        peers,
+        answer,
+        state,
+        sub,
+        inputs,
+        outputs,
+    )
 }

@@ -1,0 +1,54 @@
+// What a call answers the C side: one number for each outcome.
+use types::ListOutcome;
+use types::ProcessingOutcome;
+use types::TestOutcome;
+ghost use mathlib.Core.Path.{_≡_};
+ghost use Rattle.types.specs.Outcomes.{processedOf, testedOf, listedOf};
+ghost use Rattle.host.specs.Codes.{codeOf, writtenOf};
+ghost use Rattle.host.specs.Queries.{queryOf};
+
+pub fn code_of(outcome: ProcessingOutcome) -> u64
+    ensures { λ r. ⌜ r ≡ codeOf (processedOf outcome) ⌝ }
+{
+    match outcome {
+        ProcessingOutcome::Accepted => 0,
+        ProcessingOutcome::Replaced(_) => 100,
+        ProcessingOutcome::DoubleSpendLoser(_) => 29,
+        ProcessingOutcome::VerdictNeeded => 101,
+        ProcessingOutcome::Declined(n) => n,
+    }
+}
+
+// How many ids a submission wrote.
+pub fn written_of(outcome: ProcessingOutcome) -> u64
+    ensures { λ r. ⌜ r ≡ writtenOf (processedOf outcome) ⌝ }
+{
+    match outcome {
+        ProcessingOutcome::Accepted => 0,
+        ProcessingOutcome::Replaced(n) => n as u64,
+        ProcessingOutcome::DoubleSpendLoser(n) => n as u64,
+        ProcessingOutcome::VerdictNeeded => 0,
+        ProcessingOutcome::Declined(_) => 0,
+    }
+}
+
+// ---- queries: refusal n is 2^64−1−n
+
+pub fn test_code(outcome: TestOutcome) -> u64
+    ensures { λ r. ⌜ r ≡ queryOf (testedOf outcome) ⌝ }
+{
+    match outcome {
+        TestOutcome::Yes => 1,
+        TestOutcome::No => 0,
+        TestOutcome::NotTested(n) => u64::MAX - n,
+    }
+}
+
+pub fn list_code(outcome: ListOutcome) -> u64
+    ensures { λ r. ⌜ r ≡ queryOf (listedOf outcome) ⌝ }
+{
+    match outcome {
+        ListOutcome::Listed(k) => k as u64,
+        ListOutcome::NotListed(n) => u64::MAX - n,
+    }
+}

@@ -1,0 +1,213 @@
+// The state and a submission, read from words that the C side holds and stored back to them. Only this file knows the layout.
+use types::Counts;
+use types::FeeStrategy;
+use types::Mempool;
+use types::MempoolConfig;
+use types::Pass;
+use types::Source;
+use types::Submission;
+use types::Sums;
+use types::Verdict;
+use words::ids::Id;
+ghost use mathlib.Core.Path.{_≡_};
+ghost use Prim.Native.Nat.{_+_, _≤_};
+ghost use lib.ListN.{length, set};
+ghost use Rattle.words.specs.Ids.{wordsAt};
+ghost use Rattle.host.specs.Host.{strategyOf};
+ghost use Rattle.host.specs.State.{lowHalf, configOf, countsOf, sumsOf, passOf, stateOf, sourceOf, verdictOf, submissionOf, leftWords};
+ghost use Rattle.host.specs.Starts.{Cleared};
+
+pub const STATE_WORDS: usize = 25;
+
+pub const SUBMISSION_WORDS: usize = 11;
+
+// ---- single words
+
+// 0 is by byte, any other by cycle.
+pub fn strategy_of(word: u64) -> FeeStrategy
+    ensures { λ r. ⌜ r ≡ strategyOf word ⌝ }
+{
+    if word == 0 {
+        return FeeStrategy::FeePerByte;
+    }
+    FeeStrategy::FeePerCycle
+}
+
+// The low 32 bits.
+fn low_half(word: u64) -> u32
+    ensures { λ r. ⌜ r ≡ lowHalf word ⌝ }
+{
+    (word % 4294967296) as u32
+}
+
+fn id_at(s: &[u64], at: usize) -> Id
+    requires { ⌜ at + 4 ≤ length (now s) ⌝ }
+    ensures { λ r. ⌜ r ≡ wordsAt (now (s .entry)) at ⌝ }
+{
+    Id {
+        a: s[at],
+        b: s[at + 1],
+        c: s[at + 2],
+        d: s[at + 3],
+    }
+}
+
+// ---- the state
+
+pub fn load_config(s: &[u64]) -> MempoolConfig
+    requires { ⌜ 25 ≤ length (now s) ⌝ }
+    ensures { λ r. ⌜ r ≡ configOf (now (s .entry)) ⌝ }
+{
+    let fee_strategy = strategy_of(s[2]);
+    MempoolConfig {
+        capacity: s[0] as usize,
+        min_fee: s[1],
+        fee_strategy,
+        cleanup_interval: s[3],
+        rebroadcast_count: s[4] as usize,
+        invalidation_ttl: s[5],
+        invalidation_capacity: s[6] as usize,
+        cost_per_block: s[7],
+        cost_per_peer_per_block: s[8],
+    }
+}
+
+fn load_counts(s: &[u64]) -> Counts
+    requires { ⌜ 25 ≤ length (now s) ⌝ }
+    ensures { λ r. ⌜ r ≡ countsOf (now (s .entry)) ⌝ }
+{
+    Counts {
+        pooled: s[9] as usize,
+        records: s[10] as usize,
+    }
+}
+
+fn load_sums(s: &[u64]) -> Sums
+    requires { ⌜ 25 ≤ length (now s) ⌝ }
+    ensures { λ r. ⌜ r ≡ sumsOf (now (s .entry)) ⌝ }
+{
+    Sums {
+        interblock_cost: s[12],
+        peers: s[13] as usize,
+    }
+}
+
+fn load_pass(s: &[u64]) -> Pass
+    requires { ⌜ 25 ≤ length (now s) ⌝ }
+    ensures { λ r. ⌜ r ≡ passOf (now (s .entry)) ⌝ }
+{
+    let candidate = id_at(s, 16);
+    let preheader = low_half(s[22]);
+    Pass {
+        open: s[14] != 0,
+        out: s[15] != 0,
+        candidate,
+        time: s[20],
+        limit: s[21],
+        preheader,
+        spent: s[23],
+    }
+}
+
+pub fn load_state(s: &[u64]) -> Mempool
+    requires { ⌜ 25 ≤ length (now s) ⌝ }
+    ensures { λ r. ⌜ r ≡ stateOf (now (s .entry)) ⌝ }
+{
+    let config = load_config(s);
+    let counts = load_counts(s);
+    let sums = load_sums(s);
+    let pass = load_pass(s);
+    Mempool {
+        config,
+        counts,
+        cached: s[11] as usize,
+        sums,
+        pass,
+    }
+}
+
+// What a submission changes: the counts, ..
+fn store_counts(s: &mut [u64], counts: Counts)
+    requires { ⌜ 25 ≤ length (now s) ⌝ }
+    ensures { λ _. ⌜ now (s .exit) ≡ set (set (now (s .entry)) 9 (counts .pooled)) 10 (counts .records) ⌝ }
+{
+    s[9] = counts.pooled as u64;
+    s[10] = counts.records as u64;
+}
+
+// .. the charges, ..
+fn store_sums(s: &mut [u64], sums: Sums)
+    requires { ⌜ 25 ≤ length (now s) ⌝ }
+    ensures { λ _. ⌜ now (s .exit) ≡ set (set (now (s .entry)) 12 (sums .«interblock_cost»)) 13 (sums .peers) ⌝ }
+{
+    s[12] = sums.interblock_cost;
+    s[13] = sums.peers as u64;
+}
+
+// .. and all, with the number of ids that it wrote.
+pub fn store_left(s: &mut [u64], mempool: Mempool, written: u64)
+    requires { ⌜ 25 ≤ length (now s) ⌝ }
+    ensures { λ _. ⌜ now (s .exit) ≡ leftWords (now (s .entry)) (mempool .counts) (mempool .cached) (mempool .sums) written ⌝ }
+{
+    let counts = mempool.counts;
+    store_counts(s, counts);
+    s[11] = mempool.cached as u64;
+    let sums = mempool.sums;
+    store_sums(s, sums);
+    s[24] = written;
+}
+
+// Zero in the words 9 to 24: the state of an empty pool under its settings.
+pub fn clear(s: &mut [u64])
+    requires { ⌜ 25 ≤ length (now s) ⌝ }
+    ensures { λ _. ⌜ Cleared (now (s .entry)) (now (s .exit)) ⌝ }
+{
+    let mut i = 9;
+    while i < STATE_WORDS {
+        s[i] = 0;
+        i += 1;
+    }
+}
+
+// ---- a submission
+
+// 0 is local, any other a peer.
+fn source_of(kind: u64, peer: u64) -> Source
+    ensures { λ r. ⌜ r ≡ sourceOf kind peer ⌝ }
+{
+    if kind == 0 {
+        return Source::Local;
+    }
+    Source::Peer(peer)
+}
+
+// 0 is absent, 1 invalid, any other valid.
+fn verdict_of(kind: u64, cost: u64) -> Verdict
+    ensures { λ r. ⌜ r ≡ verdictOf kind cost ⌝ }
+{
+    if kind == 0 {
+        return Verdict::Absent;
+    }
+    if kind == 1 {
+        return Verdict::Invalid;
+    }
+    Verdict::Valid(cost)
+}
+
+pub fn load_submission(s: &[u64]) -> Submission
+    requires { ⌜ 11 ≤ length (now s) ⌝ }
+    ensures { λ r. ⌜ r ≡ submissionOf (now (s .entry)) ⌝ }
+{
+    let id = id_at(s, 1);
+    let preheader = low_half(s[6]);
+    let source = source_of(s[7], s[8]);
+    let verdict = verdict_of(s[9], s[10]);
+    Submission {
+        time: s[0],
+        id,
+        size: s[5],
+        preheader,
+        source,
+        verdict,
+    }
+}
