@@ -1,0 +1,6 @@
+pub mod Blocks
+pub mod Edges
+pub mod Steps
+pub mod Tests
+pub mod Numbers
+pub mod Post
