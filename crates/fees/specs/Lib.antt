@@ -1,0 +1,3 @@
+pub mod Fees
+pub mod Bins
+pub mod Edges
