@@ -43,11 +43,11 @@ pub le-by : {m n : ℕ} (x y : ℕ) → x ≡ m → y ≡ n → y ≤ x → ltb 
 le-by {m} {n} x y p q h = le-ltb m n (omega arith)
 
 -- a test that is not met stops the chain
-goes-on : (t u : Bool) → pick t false u ≡ true → (t ≡ false) × (u ≡ true)
+pub goes-on : (t u : Bool) → pick t false u ≡ true → (t ≡ false) × (u ≡ true)
 goes-on true u q = let z : _≡_ {A = ℕ} 0 1 = cc in absurd (omega arith)
 goes-on false u q = (refl, q)
 
-un-not : (t : Bool) → not t ≡ false → t ≡ true
+pub un-not : (t : Bool) → not t ≡ false → t ≡ true
 un-not true q = refl
 un-not false q = let z : _≡_ {A = ℕ} 0 1 = cc in absurd (omega arith)
 
