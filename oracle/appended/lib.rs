@@ -25,6 +25,11 @@ impl Mempool {
         self.pool.spending_tx(box_id)
     }
 
+    /// `OrderedPool::lowest_weight`.
+    pub fn lowest_weight(&self) -> Option<u64> {
+        self.pool.lowest_weight()
+    }
+
     pub fn interblock_cost(&self) -> u64 {
         self.interblock_cost
     }

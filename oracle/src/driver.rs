@@ -22,12 +22,20 @@ use ergo_validation::{ErgoStateContext, PreHeader};
 
 use crate::forms::{self, hex, Form, Id, Output, Return, Settings, Tx, Verdict};
 
-// poolrun's store.
-const ENTRIES: usize = 128;
-const RECORDS: usize = 1_024;
-const CACHE_IDS: u64 = 1_000;
-const PEERS: usize = 256;
-const ANSWER_WORDS: u64 = 1_024;
+/// The sizes of a lent store, and of the buffer that takes answers.
+#[derive(Clone, Copy, Debug)]
+pub struct Store {
+    pub entries: usize,
+    pub records: usize,
+    pub cache_ids: usize,
+    pub answer_words: usize,
+}
+
+/// poolrun's store.
+pub const POOLRUN: Store =
+    Store { entries: 128, records: 1_024, cache_ids: 1_000, answer_words: 1_024 };
+
+pub const PEERS: usize = 256;
 const LARGEST_LIMIT: u64 = 1 << 63;
 
 /// What the Rust says, by the words its reason begins with, and document 01's
@@ -60,14 +68,21 @@ pub struct Reply {
 }
 
 /// Answers forms, line by line.
-#[derive(Default)]
 pub struct Driver {
+    store: Store,
     line: u64,
     pool: Option<Pool>,
     written: Vec<Id>,
 }
 
+impl Default for Driver {
+    fn default() -> Driver {
+        Driver::on(POOLRUN)
+    }
+}
+
 struct Pool {
+    store: Store,
     mempool: Mempool,
     /// The peers in the order of their first charge since the last block.
     charged: Vec<u64>,
@@ -101,17 +116,36 @@ enum Reached {
 struct VerdictNeeded;
 struct CandidateReached(Id);
 
+/// What a submission came to that was neither refused nor stopped.
+#[derive(Clone, Copy, Debug, PartialEq, Eq)]
+pub enum Submitted {
+    Accepted,
+    Replaced,
+}
+
 /// Why a line has no plain answer.
-enum Stop {
+#[derive(Debug)]
+pub enum Stop {
     Refused(u32),
     VerdictNeeded,
     /// The Rust panicked: with an overflow, or otherwise.
     Panicked(String),
 }
 
+impl Stop {
+    /// A sum of the Rust did not fit.
+    pub fn is_overflow(&self) -> bool {
+        matches!(self, Stop::Panicked(why) if why.contains(NO_FIT))
+    }
+}
+
 type Answer = Result<String, Stop>;
 
 impl Driver {
+    pub fn on(store: Store) -> Driver {
+        Driver { store, line: 0, pool: None, written: Vec::new() }
+    }
+
     pub fn answer(&mut self, line: &[u8]) -> Reply {
         self.line += 1;
         let Some(form) = forms::read(line) else {
@@ -125,7 +159,7 @@ impl Driver {
             self.written.clear();
         }
         let answer = match (form, &mut self.pool) {
-            (Form::Pool(settings), _) => self.start(&settings),
+            (Form::Pool(settings), _) => self.start(&settings).map(|()| "(ready)".into()),
             (_, None) => Ok("(no pool)".into()),
             (form, Some(pool)) => pool.call(form, &mut self.written),
         };
@@ -133,17 +167,17 @@ impl Driver {
             Ok(text) => (text, false),
             Err(Stop::Refused(number)) => (format!("(refused {number})"), false),
             Err(Stop::VerdictNeeded) => ("(verdict needed)".into(), false),
-            Err(Stop::Panicked(why)) if why.contains(NO_FIT) => (OVERFLOW.into(), true),
+            Err(stop) if stop.is_overflow() => (OVERFLOW.into(), true),
             Err(Stop::Panicked(why)) => (format!("(panic {why})"), true),
         };
         Reply { text, form: name, end }
     }
 
-    fn start(&mut self, s: &Settings) -> Answer {
+    /// What the form `pool` does.
+    pub fn start(&mut self, s: &Settings) -> Result<(), Stop> {
         let limits = s.block_limit.max(s.peer_limit);
-        if s.capacity > ENTRIES as u64 - 1 || s.cache > CACHE_IDS || limits > LARGEST_LIMIT {
-            return Err(Stop::Refused(6));
-        }
+        refuse_if(s.capacity > self.store.entries as u64 - 1, 6)?;
+        refuse_if(s.cache > self.store.cache_ids as u64 || limits > LARGEST_LIMIT, 6)?;
         clock::set(0);
         let mempool = Mempool::new(MempoolConfig {
             capacity: s.capacity as usize,
@@ -157,8 +191,30 @@ impl Driver {
             cost_per_peer_per_block: s.peer_limit,
             reward_delay: 720,
         });
-        self.pool = Some(Pool { mempool, charged: Vec::new(), pass: None });
-        Ok("(ready)".into())
+        self.pool = Some(Pool { store: self.store, mempool, charged: Vec::new(), pass: None });
+        Ok(())
+    }
+
+    /// What the form `tx` does: for lists that no line holds. There must be a pool.
+    pub fn submit(&mut self, tx: &Tx) -> Result<Submitted, Stop> {
+        self.written.clear();
+        self.pool.as_mut().expect("a pool").submit(tx, &mut self.written)
+    }
+
+    /// What the form `contains` asks.
+    pub fn contains(&self, time: u64, id: &Id) -> bool {
+        self.pool.as_ref().is_some_and(|pool| pool.contains(time, id))
+    }
+
+    /// The ids that the last changing call wrote.
+    pub fn written(&self) -> &[Id] {
+        &self.written
+    }
+
+    /// The peers that were charged since the last block, in the order of their
+    /// first charge.
+    pub fn charged(&self) -> &[u64] {
+        self.pool.as_ref().map_or(&[], |pool| &pool.charged)
     }
 
     /// The pool as a query sees it now: for the generator.
@@ -173,6 +229,7 @@ impl Driver {
     /// A copy that goes its own way: for the generator.
     pub fn fork(&self) -> Driver {
         let pool = self.pool.as_ref().map(|pool| Pool {
+            store: pool.store,
             mempool: pool.mempool.deep_clone(),
             charged: pool.charged.clone(),
             pass: pool.pass.as_ref().map(|pass| Pass {
@@ -181,7 +238,7 @@ impl Driver {
                 ..*pass
             }),
         });
-        Driver { line: self.line, pool, written: self.written.clone() }
+        Driver { store: self.store, line: self.line, pool, written: self.written.clone() }
     }
 }
 
@@ -212,7 +269,13 @@ impl Pool {
     fn call(&mut self, form: Form, written: &mut Vec<Id>) -> Answer {
         match form {
             Form::Pool(_) => unreachable!("a start needs no pool"),
-            Form::Tx(tx) => self.submit(&tx, written),
+            Form::Tx(tx) => Ok(match self.submit(&tx, written)? {
+                Submitted::Accepted => format!("(accepted {})", hex(&tx.id)),
+                Submitted::Replaced => {
+                    let list: Vec<String> = written.iter().map(hex).collect();
+                    format!("(replaced {} ({}))", hex(&tx.id), list.join(" "))
+                }
+            }),
             Form::Return(returned) => self.give_back(&returned),
             Form::Block { time, txs } => self.block(time, &txs, written),
             Form::Invalidate { time, id } => {
@@ -236,8 +299,7 @@ impl Pool {
             }
             Form::Len => Ok(format!("(len {})", self.view().len())),
             Form::Contains { time, id } => {
-                clock::set(time);
-                Ok(if self.view().contains(&id) { "(yes)" } else { "(no)" }.into())
+                Ok(if self.contains(time, &id) { "(yes)" } else { "(no)" }.into())
             }
             Form::Spending(box_id) => Ok(match self.view().spending_tx(&box_id) {
                 None => "(none)".into(),
@@ -256,7 +318,7 @@ impl Pool {
                 Ok(format!("(wait {wait})"))
             }
             Form::Histogram { time, bins, longest } => {
-                refuse_if((u64::from(bins) + 1) * 2 > ANSWER_WORDS, 2)?;
+                refuse_if((u64::from(bins) + 1) * 2 > self.store.answer_words as u64, 2)?;
                 refuse_if(bins == 0 || longest < u64::from(bins), 11)?;
                 clock::set(time);
                 let pairs =
@@ -276,6 +338,11 @@ impl Pool {
         }
     }
 
+    fn contains(&self, time: u64, id: &Id) -> bool {
+        clock::set(time);
+        self.view().contains(id)
+    }
+
     fn pooled(&self, entries: &[&UnconfirmedTx]) -> String {
         let entry = |utx: &&UnconfirmedTx| {
             let id = id_of(utx);
@@ -285,7 +352,7 @@ impl Pool {
         format!("(pooled{})", entries.iter().map(entry).collect::<String>())
     }
 
-    fn submit(&mut self, tx: &Tx, written: &mut Vec<Id>) -> Answer {
+    fn submit(&mut self, tx: &Tx, written: &mut Vec<Id>) -> Result<Submitted, Stop> {
         refuse_if(self.pass.is_some(), 20)?;
         refuse_if(tx.size > MAX_TRANSACTION_SIZE as u64, 3)?;
         let fees = tx.outputs.iter().filter(|out| out.fee);
@@ -296,7 +363,7 @@ impl Pool {
         clock::set(tx.time);
         self.room_for(tx)?;
 
-        let reader = Flags { flags: tx.inputs.iter().map(|i| i.1).collect(), at: Cell::new(0) };
+        let reader = Flags::of(tx);
         let context = context(tx.preheader, judge(tx.verdict));
         let outcome = guarded(|| {
             let bytes = vec![0u8; tx.size as usize];
@@ -345,7 +412,7 @@ impl Pool {
     fn store_has(&self, records: usize) -> Result<(), Stop> {
         let pooled = self.mempool.all_prioritized();
         let used: usize = pooled.iter().map(|u| u.tx.inputs.len() + u.tx.outputs.len()).sum();
-        refuse_if(pooled.len() >= ENTRIES || used + records > RECORDS, 27)
+        refuse_if(pooled.len() >= self.store.entries || used + records > self.store.records, 27)
     }
 
     fn give_back(&mut self, r: &Return) -> Answer {
@@ -473,7 +540,7 @@ fn run_pass(
 }
 
 /// One place that turns the Rust's outcomes into document 01's answers.
-fn outcome_of(outcome: ProcessingOutcome, written: &mut Vec<Id>) -> Answer {
+fn outcome_of(outcome: ProcessingOutcome, written: &mut Vec<Id>) -> Result<Submitted, Stop> {
     let numbered = |table: &[(&str, u32)], reason: &str| {
         let found = table.iter().find(|(words, _)| reason.starts_with(words));
         Err(match found {
@@ -482,11 +549,10 @@ fn outcome_of(outcome: ProcessingOutcome, written: &mut Vec<Id>) -> Answer {
         })
     };
     match outcome {
-        ProcessingOutcome::Accepted { tx_id } => Ok(format!("(accepted {})", hex(&tx_id))),
-        ProcessingOutcome::Replaced { tx_id, removed } => {
+        ProcessingOutcome::Accepted { .. } => Ok(Submitted::Accepted),
+        ProcessingOutcome::Replaced { removed, .. } => {
             *written = removed;
-            let list: Vec<String> = written.iter().map(hex).collect();
-            Ok(format!("(replaced {} ({}))", hex(&tx_id), list.join(" ")))
+            Ok(Submitted::Replaced)
         }
         ProcessingOutcome::DoubleSpendLoser { winner_ids } => {
             *written = winner_ids;
@@ -516,18 +582,19 @@ fn ergo_box(out: &Output) -> ErgoBox {
     }
 }
 
-fn transaction(tx: &Tx) -> Transaction {
+/// A submission as the Rust takes it.
+pub fn transaction(tx: &Tx) -> Transaction {
     let inputs: Vec<Id> = tx.inputs.iter().map(|i| i.0).collect();
     Transaction::stand_in(tx.id, &inputs, tx.outputs.iter().map(ergo_box).collect())
 }
 
-fn context(preheader: u32, judge: ergo_validation::Judge) -> ErgoStateContext {
+pub fn context(preheader: u32, judge: ergo_validation::Judge) -> ErgoStateContext {
     ErgoStateContext { pre_header: PreHeader { height: preheader }, judge }
 }
 
 /// The validator that a verdict stands for. Without one it does not come back,
 /// and at that point the Rust has changed nothing for this transaction.
-fn judge(verdict: Verdict) -> ergo_validation::Judge {
+pub fn judge(verdict: Verdict) -> ergo_validation::Judge {
     Box::new(move |_| match verdict {
         Verdict::Ok(cost) => Ok(cost),
         Verdict::Bad => Err("invalid verdict".into()),
@@ -542,9 +609,15 @@ fn some_box(id: &Id) -> ErgoBox {
 
 /// A submission's confirmed boxes, by position: the k-th question is about
 /// input k, so that a repeated input may carry both flags.
-struct Flags {
+pub struct Flags {
     flags: Vec<bool>,
     at: Cell<usize>,
+}
+
+impl Flags {
+    pub fn of(tx: &Tx) -> Flags {
+        Flags { flags: tx.inputs.iter().map(|i| i.1).collect(), at: Cell::new(0) }
+    }
 }
 
 impl UtxoReader for Flags {

@@ -5,6 +5,7 @@
 use crate::driver::Driver;
 use crate::forms::{self, hex, Id, NAMES};
 use crate::profiles;
+use crate::rng::Rng;
 
 /// The profiles: a name, what makes its lines, and the forms it keeps to.
 pub struct Profile {
@@ -21,7 +22,7 @@ pub fn script(seed: u64, profile: &Profile, lines: usize, only: Option<&[String]
     let kept = |form: &&'static str| only.is_none_or(|only| only.iter().any(|o| o == form));
     let name = profile.name.bytes().fold(0u64, |sum, b| sum.wrapping_mul(131).wrapping_add(b.into()));
     let mut gen = Gen {
-        rng: Rng(seed.wrapping_mul(0x9e37_79b9_7f4a_7c15) ^ name),
+        rng: Rng::new(seed.wrapping_mul(0x9e37_79b9_7f4a_7c15) ^ name),
         driver: Driver::default(),
         script: Vec::new(),
         lines: 0,
@@ -38,43 +39,6 @@ pub fn script(seed: u64, profile: &Profile, lines: usize, only: Option<&[String]
     };
     (profile.make)(&mut gen);
     gen.script
-}
-
-/// splitmix64.
-pub struct Rng(u64);
-
-impl Rng {
-    pub fn next(&mut self) -> u64 {
-        self.0 = self.0.wrapping_add(0x9e37_79b9_7f4a_7c15);
-        let mut z = self.0;
-        z = (z ^ (z >> 30)).wrapping_mul(0xbf58_476d_1ce4_e5b9);
-        z = (z ^ (z >> 27)).wrapping_mul(0x94d0_49bb_1331_11eb);
-        z ^ (z >> 31)
-    }
-
-    /// A number below `n`; 0 for 0.
-    pub fn below(&mut self, n: u64) -> u64 {
-        self.next().checked_rem(n).unwrap_or(0)
-    }
-
-    pub fn between(&mut self, low: u64, high: u64) -> u64 {
-        low + self.below(high - low + 1)
-    }
-
-    /// True in `percent` of a hundred.
-    pub fn chance(&mut self, percent: u64) -> bool {
-        self.below(100) < percent
-    }
-
-    pub fn pick<T: Clone>(&mut self, among: &[T]) -> T {
-        among[self.below(among.len() as u64) as usize].clone()
-    }
-
-    pub fn shuffle<T>(&mut self, list: &mut [T]) {
-        for i in (1..list.len()).rev() {
-            list.swap(i, self.below(i as u64 + 1) as usize);
-        }
-    }
 }
 
 /// The settings of a `pool` line.

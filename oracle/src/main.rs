@@ -1,9 +1,7 @@
 //! The oracle: the Rust of the pool, speaking the forms of poolrun.
 
 mod compare;
-mod driver;
 mod expected;
-mod forms;
 mod gen;
 mod profiles;
 mod sources;
@@ -13,7 +11,8 @@ use std::io::{self, BufRead, Write};
 use std::process::exit;
 
 use compare::Options;
-use driver::Driver;
+use oracle::driver::Driver;
+use oracle::{driver, forms, rng};
 use profiles::PROFILES;
 
 pub const EXAMPLE: (&[u8], &str) =

@@ -1,6 +1,6 @@
 //! Which files this program was built from.
 
-include!(concat!(env!("OUT_DIR"), "/sources.rs"));
+use ergo_mempool::sources::SOURCES;
 
 /// Prints the list; true if every file is the one that SOURCES.sha256 lists.
 pub fn print() -> bool {

@@ -1,4 +1,4 @@
-//! Reads the Rust files of the pool, checks them against SOURCES.sha256,
+//! Reads the Rust files of the pool, checks them against ../SOURCES.sha256,
 //! applies the substitutions that SUBSTITUTIONS.md lists and leaves the result
 //! in OUT_DIR/mempool. A substitution that does not find its place exactly as
 //! often as expected stops the build.
@@ -39,13 +39,13 @@ const SOURCES: &[Source] = &[
 
 fn main() {
     println!("cargo:rerun-if-env-changed=MEMPOOL_SRC");
-    for own in ["build.rs", "SOURCES.sha256", "appended"] {
+    for own in ["build.rs", "../SOURCES.sha256", "../appended"] {
         println!("cargo:rerun-if-changed={own}");
     }
     let folder = sources_folder();
     let out = PathBuf::from(env::var("OUT_DIR").unwrap());
     fs::create_dir_all(out.join("mempool")).unwrap();
-    let list = fs::read_to_string("SOURCES.sha256").expect("SOURCES.sha256");
+    let list = fs::read_to_string("../SOURCES.sha256").expect("SOURCES.sha256");
 
     let mut known = String::from("pub const SOURCES: &[(&str, &str, &str)] = &[\n");
     for source in SOURCES {
@@ -71,14 +71,14 @@ fn main() {
 }
 
 /// The folder that MEMPOOL_SRC names, a relative one seen from the repository's
-/// root or else from here; by default docs/src of `shared`, beside the repository.
+/// root or else from `oracle`; by default docs/src of `shared`, beside the repository.
 fn sources_folder() -> PathBuf {
     match env::var("MEMPOOL_SRC") {
         Ok(named) if !named.is_empty() => {
-            let from_root = Path::new("..").join(&named);
-            if from_root.is_dir() { from_root } else { PathBuf::from(named) }
+            let from_root = Path::new("../..").join(&named);
+            if from_root.is_dir() { from_root } else { Path::new("..").join(named) }
         }
-        _ => PathBuf::from("../../shared/docs/src"),
+        _ => PathBuf::from("../../../shared/docs/src"),
     }
 }
 
@@ -101,7 +101,7 @@ fn substitute(source: &Source, mut text: String) -> String {
     let lines: Vec<&str> = text.lines().collect();
     let mut text = lines[..lines.len() - tail].join("\n");
     text.push('\n');
-    let more = format!("appended/{name}.rs");
+    let more = format!("../appended/{name}.rs");
     if Path::new(&more).exists() {
         text.push_str(&fs::read_to_string(&more).unwrap());
     }

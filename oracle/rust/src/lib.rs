@@ -3,3 +3,8 @@
 #![allow(unused_variables)]
 
 include!(concat!(env!("OUT_DIR"), "/mempool/lib.rs"));
+
+/// The files that this was built from: name, sum listed, sum found.
+pub mod sources {
+    include!(concat!(env!("OUT_DIR"), "/sources.rs"));
+}

@@ -1,0 +1,476 @@
+//! One script: every call goes to the Rust and to the port, and what they say
+//! is compared at once.
+
+use std::time::Instant;
+
+use oracle::driver::{Driver, Stop, Submitted, PEERS};
+use oracle::forms::{hex, Id, Output, Settings, Tx, Verdict};
+use oracle::rng::Rng;
+use port::{
+    id_of, Port, Row, Submission, ENTRY_WORDS, FULL, ID_WORDS, INPUT_WORDS, OUTPUT_WORDS,
+    RECORD_WORDS,
+};
+
+use crate::tally::{self, Tally};
+
+/// What a call gives back once the script is over.
+pub const OVER: u64 = u64::MAX;
+
+/// Boxes and ids of the last calls, from which samples are asked for.
+const REMEMBERED: usize = 4_096;
+const SAMPLES: u64 = 24;
+
+pub struct Script<'a> {
+    pub rng: Rng,
+    pub rust: Driver,
+    pub settings: Settings,
+    pub time: u64,
+    port: &'a mut Port,
+    /// The answer buffer as the last call must have left it.
+    shadow: Vec<u64>,
+    tally: &'a mut Tally,
+    shape: &'static str,
+    seed: u64,
+    calls: u64,
+    /// After so many calls the whole pools are compared.
+    pub every: u64,
+    over: bool,
+    spread: Spread,
+    fresh: u64,
+    boxes: Vec<Id>,
+    ids: Vec<Id>,
+}
+
+/// How a script's ids differ from one another: a port may compare words of an
+/// id one by one.
+#[derive(Clone, Copy)]
+enum Spread {
+    Everywhere,
+    /// Only in one word.
+    In(usize),
+}
+
+/// A submission and how it is handed over.
+pub struct Call {
+    pub tx: Tx,
+    /// Words taken off the ends of the lists.
+    pub cut: (usize, usize),
+    /// Words of the answer buffer.
+    pub room: usize,
+    pub in_pass: bool,
+}
+
+impl From<Tx> for Call {
+    fn from(tx: Tx) -> Call {
+        Call { tx, cut: (0, 0), room: FULL.answer_words, in_pass: false }
+    }
+}
+
+impl<'a> Script<'a> {
+    pub fn new(port: &'a mut Port, tally: &'a mut Tally, shape: &'static str, seed: u64) -> Self {
+        let name = shape.bytes().fold(0u64, |sum, b| sum.wrapping_mul(131).wrapping_add(b.into()));
+        let mut rng = Rng::new(seed.wrapping_mul(0x9e37_79b9_7f4a_7c15) ^ name);
+        // A start takes any words: what an earlier pool may have left.
+        for table in [&mut port.entries, &mut port.boxes, &mut port.cache, &mut port.peers] {
+            table.fill_with(|| rng.next());
+        }
+        port.answer.fill_with(|| rng.next());
+        let word = rng.below(8) as usize;
+        let spread = if word < 4 { Spread::In(word) } else { Spread::Everywhere };
+        let shadow = port.answer.clone();
+        Script {
+            rng,
+            rust: Driver::on(FULL),
+            settings: usual(),
+            time: 0,
+            port,
+            shadow,
+            tally,
+            shape,
+            seed,
+            calls: 0,
+            every: 64,
+            over: false,
+            spread,
+            fresh: 0,
+            boxes: Vec::new(),
+            ids: Vec::new(),
+        }
+    }
+
+    // ---- what shapes build calls from
+
+    /// An id that no earlier call named.
+    pub fn id(&mut self) -> Id {
+        self.fresh += 1;
+        // The place of an id in the order is random; it is not used twice.
+        let order = self.rng.below(1 << 40) << 24 | self.fresh;
+        let mut words = [0; 4];
+        match self.spread {
+            Spread::Everywhere => words = [self.rng.next(), self.rng.next(), self.fresh, self.rng.next()],
+            Spread::In(word) => words[word] = order,
+        }
+        id_of(&words)
+    }
+
+    /// A valid local submission of 1,024 bytes, so that by byte its base is its
+    /// fee: confirmed inputs and inputs from the pool, and so many outputs
+    /// beside the one that pays.
+    pub fn tx(&mut self, confirmed: &[Id], pooled: &[Id], outputs: usize, fee: u64) -> Tx {
+        let inputs = confirmed.iter().map(|b| (*b, true)).chain(pooled.iter().map(|b| (*b, false)));
+        let inputs = inputs.collect();
+        let mut outs = vec![self.output(fee, true)];
+        for _ in 0..outputs {
+            let value = self.rng.below(1 << 30);
+            outs.push(self.output(value, false));
+        }
+        Tx {
+            time: self.time,
+            id: self.id(),
+            peer: None,
+            size: 1_024,
+            preheader: 50,
+            inputs,
+            outputs: outs,
+            verdict: Verdict::Ok(self.rng.below(900)),
+        }
+    }
+
+    pub fn output(&mut self, value: u64, fee: bool) -> Output {
+        Output { box_id: self.id(), value, fee, height: self.rng.below(51) as u32 }
+    }
+
+    /// Boxes that no earlier call named.
+    pub fn boxes(&mut self, count: usize) -> Vec<Id> {
+        (0..count).map(|_| self.id()).collect()
+    }
+
+    pub fn len(&self) -> usize {
+        self.rust.view().map_or(0, |pool| pool.len())
+    }
+
+    pub fn is_over(&self) -> bool {
+        self.over
+    }
+
+    /// The weight of the last in the order.
+    pub fn lowest(&self) -> u64 {
+        self.rust.view().and_then(|pool| pool.lowest_weight()).unwrap_or(0)
+    }
+
+    pub fn weight_of(&self, id: &Id) -> Option<u64> {
+        self.rust.view().and_then(|pool| pool.weight_of(id)).map(|key| key.weight)
+    }
+
+    /// Notes that something was met that a run has to meet.
+    pub fn met(&mut self, what: &'static str) {
+        if !self.over {
+            self.tally.meet(what);
+        }
+    }
+
+    // ---- calls
+
+    /// Starts a pool on both sides.
+    pub fn start(&mut self, settings: Settings) -> u64 {
+        let there = match self.rust.start(&settings) {
+            Ok(()) => 0,
+            Err(Stop::Refused(number)) => number.into(),
+            Err(other) => return self.ended(other),
+        };
+        self.compare_start(&settings, there)
+    }
+
+    /// A start on tables of other sizes, which only the port has: entries, box
+    /// records, cache ids and peer records.
+    pub fn start_sized(&mut self, settings: &Settings, sizes: [usize; 4]) -> u64 {
+        let fits = (1..=4_096).contains(&sizes[0])
+            && (1..=65_536).contains(&sizes[1])
+            && (1..=10_000).contains(&sizes[2])
+            && sizes[3] == 256;
+        let settled = settings.capacity < sizes[0] as u64
+            && settings.cache <= sizes[2] as u64
+            && settings.block_limit.max(settings.peer_limit) <= 1 << 63;
+        let whole = self.port.clone();
+        self.port.resize(sizes);
+        let code = self.compare_start(settings, if fits && settled { 0 } else { 6 });
+        *self.port = whole;
+        code
+    }
+
+    fn compare_start(&mut self, settings: &Settings, there: u64) -> u64 {
+        self.calls += 1;
+        let began = Instant::now();
+        let here = self.port.start(settings);
+        self.tally.port += began.elapsed();
+        self.tally.start(there);
+        if here != there {
+            self.differ(&format!("start: the Rust's side says {there}, the port {here}"));
+        } else if here == 0 {
+            self.settings = settings.clone();
+        }
+        there
+    }
+
+    pub fn submit(&mut self, tx: Tx) -> u64 {
+        self.call(tx.into())
+    }
+
+    /// Submits on both sides and compares: the number, the ids written, the rest
+    /// of the answer buffer, and the counts.
+    pub fn call(&mut self, call: Call) -> u64 {
+        if self.over {
+            return OVER;
+        }
+        self.calls += 1;
+        self.remember(&call.tx);
+        let began = Instant::now();
+        let there = self.there(&call);
+        self.tally.rust += began.elapsed();
+        let (there, ids) = match there {
+            Ok(answer) => answer,
+            Err(stop) => return self.ended(stop),
+        };
+
+        let mut words = Submission::of(&call.tx);
+        words.inputs.truncate(words.inputs.len() - call.cut.0);
+        words.outputs.truncate(words.outputs.len() - call.cut.1);
+        self.port.set_pass(call.in_pass);
+        let began = Instant::now();
+        let here = self.port.process(&words, call.room);
+        self.tally.port += began.elapsed();
+        self.port.set_pass(false);
+
+        self.tally.outcome(there, self.port.len(), self.port.records());
+        if here != there {
+            self.differ(&format!("the Rust says {there}, the port {here}"));
+        } else if let Some(what) = self.compare_answer(&ids) {
+            self.differ(&what);
+        } else if let Some(what) = self.compare_counts() {
+            self.differ(&what);
+        } else if self.calls % self.every == 0 {
+            self.compare_pools();
+        }
+        there
+    }
+
+    /// What the Rust says; what it does not have is decided here: a pass, lists
+    /// that are no whole records, an answer buffer that is too small.
+    fn there(&mut self, call: &Call) -> Result<(u64, Vec<Id>), Stop> {
+        let pooled = self.len();
+        if call.in_pass {
+            return Ok((20, Vec::new()));
+        }
+        if call.cut.0 % INPUT_WORDS != 0 || call.cut.1 % OUTPUT_WORDS != 0 {
+            return Ok((1, Vec::new()));
+        }
+        if call.room / ID_WORDS < pooled + 1 {
+            return Ok((2, Vec::new()));
+        }
+        let number = match self.rust.submit(&call.tx) {
+            Ok(Submitted::Accepted) => port::ACCEPTED,
+            Ok(Submitted::Replaced) => port::REPLACED,
+            Err(Stop::VerdictNeeded) => port::VERDICT_NEEDED,
+            Err(Stop::Refused(number)) => number.into(),
+            Err(stop) => return Err(stop),
+        };
+        Ok((number, self.rust.written().to_vec()))
+    }
+
+    fn remember(&mut self, tx: &Tx) {
+        let keep = |list: &mut Vec<Id>, id: Id, rng: &mut Rng| {
+            if list.len() < REMEMBERED {
+                list.push(id);
+            } else {
+                let place = rng.below(REMEMBERED as u64) as usize;
+                list[place] = id;
+            }
+        };
+        keep(&mut self.ids, tx.id, &mut self.rng);
+        for (box_id, _) in tx.inputs.iter().take(8) {
+            keep(&mut self.boxes, *box_id, &mut self.rng);
+        }
+        for out in tx.outputs.iter().take(2) {
+            keep(&mut self.boxes, out.box_id, &mut self.rng);
+        }
+    }
+
+    /// Submits to the port alone, on words that no calls left. The pool is then
+    /// put back.
+    pub fn disturbed(&mut self, tx: &Tx) {
+        if self.over {
+            return;
+        }
+        self.calls += 1;
+        let whole = self.port.clone();
+        let (entries, records) = (self.port.len() * ENTRY_WORDS, self.port.records() * RECORD_WORDS);
+        for _ in 0..self.rng.between(1, 30) {
+            let (table, used) = match self.rng.below(4) {
+                0 => (&mut self.port.entries, entries),
+                1 => (&mut self.port.peers, 20),
+                _ => (&mut self.port.boxes, records),
+            };
+            let at = self.rng.below(used as u64 + 10) as usize;
+            let other = table[self.rng.below(used as u64 + 10) as usize];
+            table[at] = self.rng.pick(&[0, 1, u64::MAX, other, other, other]);
+        }
+        for _ in 0..self.rng.below(4) {
+            let at = self.rng.below(self.port.state.len() as u64) as usize;
+            let any = self.rng.next();
+            let sizes = [0, 1, 39, 256, 257, 4_095, 4_096, 4_097, 65_536, 65_537, any];
+            self.port.state[at] = self.rng.pick(&sizes);
+        }
+        let mut words = Submission::of(tx);
+        let less = self.rng.below(6) as usize;
+        words.inputs.truncate(words.inputs.len().saturating_sub(less));
+        let room = self.rng.pick(&[FULL.answer_words, 200, 7]);
+        let settings = self.port.state[..9].to_vec();
+        let number = self.port.process(&words, room);
+        let kept = self.port.state[..9] == settings && self.port.answer[room..] == whole.answer[room..];
+        *self.port = whole;
+        self.tally.junk += 1;
+        if !tally::OUTCOMES.contains(&number) || !kept {
+            self.differ(&format!("on disturbed words the port says {number}, rest kept: {kept}"));
+        }
+    }
+
+    // ---- comparisons
+
+    fn compare_answer(&mut self, ids: &[Id]) -> Option<String> {
+        let written = self.port.written();
+        if written != ids.len() {
+            return Some(format!("the Rust names {} ids, the port {written}", ids.len()));
+        }
+        for (k, id) in ids.iter().enumerate() {
+            let words = &self.port.answer[k * ID_WORDS..][..ID_WORDS];
+            if id_of(words) != *id {
+                let (there, here) = (hex(id), hex(&id_of(words)));
+                return Some(format!("id {k} written: the Rust has {there}, the port {here}"));
+            }
+            self.shadow[k * ID_WORDS..][..ID_WORDS].copy_from_slice(words);
+        }
+        (self.port.answer != self.shadow).then(|| "the port wrote where no id stands".into())
+    }
+
+    fn compare_counts(&mut self) -> Option<String> {
+        let pool = self.rust.view().expect("a pool");
+        let there = (pool.len(), pool.interblock_cost(), pool.per_peer_cost().len());
+        let here = (self.port.len(), self.port.block_sum(), self.port.peer_sums().len());
+        if there.0 == FULL.entries - 1 {
+            self.tally.meet(tally::FULL_POOL);
+        }
+        if self.port.records() == FULL.records {
+            self.tally.meet(tally::FULL_STORE);
+        }
+        if there.2 == PEERS {
+            self.tally.meet(tally::ALL_PEERS);
+        }
+        (here != there).then(|| {
+            format!("entries, block sum, peers: the Rust has {there:?}, the port {here:?}")
+        })
+    }
+
+    /// The whole pools: ids, weights and bases in order, records in use, peer
+    /// sums, and samples of the other queries.
+    pub fn compare_pools(&mut self) {
+        if self.over {
+            return;
+        }
+        self.tally.pools += 1;
+        if let Some(what) = self.difference() {
+            self.differ(&what);
+        }
+    }
+
+    fn difference(&mut self) -> Option<String> {
+        let pool = self.rust.view().expect("a pool");
+        let row = |key: &ergo_mempool::weight::TxWeight| Row {
+            id: key.tx_id,
+            weight: key.weight,
+            base: key.fee_per_factor,
+        };
+        let (mut records, mut there) = (0, Vec::with_capacity(pool.len()));
+        for utx in pool.all_prioritized() {
+            records += utx.tx.inputs.len() + utx.tx.outputs.len();
+            there.push(row(pool.weight_of(&utx.tx.id().0).expect("a pooled id has a key")));
+        }
+        let here = self.port.top(usize::MAX);
+        if here != there {
+            let rank = here.iter().zip(&there).take_while(|(a, b)| a == b).count();
+            let (there, here) = (there.get(rank), here.get(rank));
+            return Some(format!("rank {rank}: the Rust has {there:?}, the port {here:?}"));
+        }
+        let first = self.rng.below(there.len() as u64 + 2) as usize;
+        if self.port.top(first) != there[..first.min(there.len())] {
+            return Some(format!("the first {first}"));
+        }
+        if records != self.port.records() {
+            return Some(format!("{records} records in the Rust, {} in use", self.port.records()));
+        }
+        let sums: Vec<(u64, u64)> =
+            self.rust.charged().iter().map(|peer| (*peer, pool.per_peer_cost()[peer])).collect();
+        if sums != self.port.peer_sums() {
+            return Some("peer sums".into());
+        }
+        for _ in 0..SAMPLES.min(self.boxes.len() as u64) {
+            let box_id = self.rng.pick(&self.boxes);
+            let there = pool.spending_tx(&box_id).map(row);
+            let here = self.port.spending_tx(&box_id);
+            self.tally.samples += 1;
+            if here != there {
+                return Some(format!("spender of {}: {there:?} and {here:?}", hex(&box_id)));
+            }
+        }
+        for _ in 0..SAMPLES.min(self.ids.len() as u64) {
+            let id = self.rng.pick(&self.ids);
+            // Around the end of an id's life, if it is in the cache.
+            let times = [self.time, self.time + self.settings.ttl, self.time + self.settings.ttl / 2];
+            let time = self.rng.pick(&times);
+            let there = self.rust.contains(time, &id);
+            let here = self.port.contains(time, &id);
+            self.tally.samples += 1;
+            if here != u64::from(there) {
+                return Some(format!("{} at {time}: contained {there}, {here}", hex(&id)));
+            }
+        }
+        None
+    }
+
+    fn differ(&mut self, what: &str) {
+        self.over = true;
+        let (shape, seed, calls) = (self.shape, self.seed, self.calls);
+        self.tally.disagree(&format!("{shape} seed {seed} call {calls}: {what}"));
+    }
+
+    /// A sum of the Rust did not fit: its pool may be half changed, and there is
+    /// nothing more to compare with. Anything else is a fault.
+    fn ended(&mut self, stop: Stop) -> u64 {
+        if stop.is_overflow() {
+            self.tally.unfit += 1;
+            self.over = true;
+        } else {
+            self.differ(&format!("the Rust stopped: {stop:?}"));
+        }
+        OVER
+    }
+
+    pub fn finish(mut self) {
+        self.compare_pools();
+        self.tally.script(self.calls);
+    }
+}
+
+/// Settings that keep out of the way.
+pub fn usual() -> Settings {
+    Settings {
+        capacity: 4_095,
+        min_fee: 10,
+        by_cycle: false,
+        interval: 30_000,
+        rebroadcast: 3,
+        ttl: 1_800_000,
+        cache: 10_000,
+        block_limit: 1 << 63,
+        peer_limit: 1 << 63,
+    }
+}
