@@ -46,7 +46,7 @@ use Rattle.lines.specs.declared.read.TxForm.{TxForm}
 use Rattle.session.specs.declared.calls.Call.{Call}
 use Rattle.session.specs.declared.calls.Call.the-variants.{Start, Submit, Ask, NotThere}
 use Rattle.session.specs.declared.calls.Query.{Query}
-use Rattle.session.specs.Session.{Line, wReady, wNoPool, refusedText, unreadText, txText, writtenIn, configOf, submissionOf, processedLine, startedLine, same, asked, lineOf}
+use Rattle.session.specs.Session.{Line, wReady, wNoPool, refusedText, unreadText, txText, writtenIn, configOf, noConfig, nothing, submissionOf, processedLine, startedLine, same, asked, lineOf}
 use Rattle.session.specs.Texts.{prints-as}
 use Rattle.session.specs.After.{Holds, After, ToldOf}
 use Rattle.session.specs.declared.Kept.{Kept}
@@ -189,6 +189,25 @@ after-cut e b k p a e' b' k' p' a' o₀ o h t u f s x i j n m v w q = rw (← ta
 
 -- ---- a start's line
 
+-- no count is too large for no words
+fits-none : (e b : List ℕ) → fitsTest e b (record { pooled = 0; records = 0 }) ≡ true
+fits-none e b = rw (le-leb 0 (entriesRoom e) (omega arith)) (le-leb 0 (boxesRoom b) (omega arith))
+
+pub fits-new : (e b k p : List ℕ) (c : MempoolConfig) → max (c .«invalidation_capacity») 1 ≤ cacheRoom k → 512 ≤ length p → Fits e b k p (empty c)
+unfolding empty
+fits-new e b k p c y z =
+    record {
+      tests = record { pool = fits-true e b _ (fits-none e b); cache = ok-room k 0 (omega arith) };
+      keeps = y;
+      words = z;
+      used = omega arith;
+    }
+
+-- before the first start
+pub holds-nothing : (e b k p a : List ℕ) → 5 ≤ length k → 512 ≤ length p → Holds e b k p a nothing
+unfolding cacheRoom
+holds-nothing e b k p a y z = record { fits = fits-new e b k p noConfig (omega arith) z; written = omega arith }
+
 module _ (e b k p : List ℕ) (c : MempoolConfig) where
   abbrev sizesHere : Sizes
   sizesHere = sizes (entriesRoom e) (boxesRoom b) (cacheRoom k) (length p / 2)
@@ -218,19 +237,7 @@ module _ (e b k p : List ℕ) (c : MempoolConfig) where
       ltb-false _ _ (r .0)
 
   fits-empty : sized sizesHere ≡ true → settles sizesHere c ≡ true → Fits e b k p (empty c)
-  unfolding empty
-  fits-empty t u =
-      let z = sized-needs t in
-      let y = settled-needs u in
-      record {
-        tests = record { pool = fits-true e b _ (fits-none e b); cache = ok-room k 0 (omega arith) };
-        keeps = omega (arith, z .0, y);
-        words = z .1;
-        used = omega arith;
-      }
-    where
-      fits-none : (e b : List ℕ) → fitsTest e b (record { pooled = 0; records = 0 }) ≡ true
-      fits-none e b = rw (le-leb 0 (entriesRoom e) (omega arith)) (le-leb 0 (boxesRoom b) (omega arith))
+  fits-empty t u = let z = sized-needs t in let y = settled-needs u in fits-new e b k p c (omega (arith, z .0, y)) (z .1)
 
   pub fits-started : (st : Mempool) → started sizesHere c ≡ Ready st → Fits e b k p st
   unfolding started
