@@ -3,6 +3,8 @@
 mod compare;
 mod expected;
 mod gen;
+mod noise;
+mod odd;
 mod profiles;
 mod sources;
 mod stored;
@@ -29,7 +31,8 @@ oracle compare N [OPTIONS]           N seeds of every profile through the port a
     --lines L                        lines of a script
     --budget SECONDS                 begin no script after that time
     --shrink COUNT                   search the smallest script of so many disagreements
-oracle answers DIR                   write DIR/stdin and DIR/stdout, the list to replay
+oracle answers DIR [--forms A,B,..]  write DIR/stdin and DIR/stdout, the list to replay
+oracle noise BYTES SEED [--forms ..]  write random and mutated bytes
 oracle sources                       the Rust files this program was built from
 oracle selfcheck                     document 01's example
 oracle profiles                      the names of the profiles";
@@ -47,7 +50,12 @@ fn main() {
         ["gen", seed, profile] => write_script(seed, profile, gen::LINES),
         ["gen", seed, profile, lines] => write_script(seed, profile, number(lines) as usize),
         ["compare", seeds, rest @ ..] => leave(compare::compare(&options(seeds, rest))),
-        ["answers", folder] => stored::write(folder),
+        ["answers", folder] => stored::write(folder, None),
+        ["answers", folder, "--forms", list] => stored::write(folder, Some(&form_names(list))),
+        ["noise", bytes, seed] => noise::write(number(bytes) as usize, number(seed), None),
+        ["noise", bytes, seed, "--forms", list] => {
+            noise::write(number(bytes) as usize, number(seed), Some(&form_names(list)))
+        }
         ["sources"] => leave(sources::print()),
         ["selfcheck"] => leave(selfcheck()),
         ["profiles"] => writeln!(io::stdout(), "{}", names()),
@@ -82,6 +90,14 @@ fn profile(name: &str) -> &'static gen::Profile {
     gen::find(name).unwrap_or_else(|| fail(&format!("no profile {name}; there are {}", names())))
 }
 
+fn form_names(list: &str) -> Vec<String> {
+    let list: Vec<String> = list.split(',').map(String::from).collect();
+    if let Some(other) = list.iter().find(|f| !forms::NAMES.contains(&f.as_str())) {
+        fail(&format!("no form {other}; there are {}", forms::NAMES.join(" ")));
+    }
+    list
+}
+
 fn options(seeds: &str, rest: &[&str]) -> Options {
     let mut options = Options {
         seeds: number(seeds),
@@ -105,13 +121,7 @@ fn options(seeds: &str, rest: &[&str]) -> Options {
                 options.profiles = list.split(',').map(profile).collect();
                 options.all_profiles = false;
             }
-            ["--forms", list] => {
-                let list: Vec<String> = list.split(',').map(String::from).collect();
-                if let Some(other) = list.iter().find(|f| !forms::NAMES.contains(&f.as_str())) {
-                    fail(&format!("no form {other}; there are {}", forms::NAMES.join(" ")));
-                }
-                options.forms = Some(list);
-            }
+            ["--forms", list] => options.forms = Some(form_names(list)),
             _ => fail(USAGE),
         }
     }

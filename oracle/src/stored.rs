@@ -6,19 +6,25 @@ use std::{fs, io};
 use crate::compare::{answers, Answers};
 use crate::forms;
 use crate::gen;
+use crate::odd;
 use crate::profiles::PROFILES;
 use crate::EXAMPLE;
 
 const AT_LEAST: usize = 20_000;
 
-/// Writes DIR/stdin and DIR/stdout: document 01's example, then scripts of all
-/// profiles from the seeds 1, 2, .. until there are enough.
-pub fn write(folder: &str) -> io::Result<()> {
+/// Writes DIR/stdin and DIR/stdout: document 01's example, the odd lines, then
+/// scripts of all profiles from the seeds 1, 2, .. until there are enough, all
+/// of these forms only. The last line lacks its newline.
+pub fn write(folder: &str, only: Option<&[String]>) -> io::Result<()> {
     let mut script: Vec<u8> = EXAMPLE.0.to_vec();
+    for line in odd::lines() {
+        script.extend_from_slice(&line);
+        script.push(b'\n');
+    }
     let mut seed = 1;
     while forms::lines(&script).len() < AT_LEAST {
         for profile in PROFILES {
-            let part = gen::script(seed, profile, gen::LINES, None);
+            let part = gen::script(seed, profile, gen::LINES, only);
             // What comes at or behind a sum that does not fit has no answer.
             let answered = answers(&part);
             let kept = answered.texts.len() - usize::from(answered.ended);
@@ -31,6 +37,7 @@ pub fn write(folder: &str) -> io::Result<()> {
     }
     let answers = answers_without_ends(&mut script);
     let text: String = answers.texts.iter().map(|text| format!("{text}\n")).collect();
+    script.pop();
     fs::create_dir_all(folder)?;
     fs::write(Path::new(folder).join("stdin"), &script)?;
     fs::write(Path::new(folder).join("stdout"), &text)?;
