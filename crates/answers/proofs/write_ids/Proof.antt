@@ -2,9 +2,11 @@
 -- beginning (`Writing`). Assumes nothing.
 use borrow.Author.Needs.{needs}
 use native.Mathlib.Omega.{arith}
-use Prim.Native.Nat.{_+_, _-_, _≤_}
+use mathlib.Core.Path.{_≡_}
+use Prim.Native.Nat.{_+_, _-_, _*_, _≤_}
 use native.Mathlib.Nat.{add-zero, add-assoc}
 use lib.ListN.{drop}
+use Rattle.words.specs.Ids.{idOf, idAt}
 use Rattle.words.specs.Tables.{drop-of, drop-past}
 use Rattle.boxes.specs.Flat.{idsTo, ids}
 use Rattle.answers.specs.Answers.{Writing, writing-none, writing-more, writing-all}
@@ -36,7 +38,12 @@ loop-less : tie.Need-loop-less Inv-loop μ-loop
 loop-less c = omega arith
 
 loop-again : tie.Need-loop-again Inv-loop μ-loop
-loop-again c = (omega arith, rw (← add-assoc (c .before .before .before .before .before .before .before .before .before .args .at) (c .before .before .before .before .before .before .loop .i) 1) (writing-more (rw (drop-of (ids 4) _ _ _ (c .before .before .before .before .before .loop-test .taken), ← c .before .before .before .id-at .ensures) at (c .before .before .before .before .before .before .loop .inv .1)) (c .before .before .write-id .ensures)))
+loop-again c =
+    let a = c .before .before .before .before .before .before .before .before .before .args in
+    let l = c .before .before .before .before .before .before .loop in
+    -- the id read is the one at place i
+    let read : idOf (c .before .before .before .id-at .result) ≡ idAt (a .list .now) (l .i * 4) = omega (arith, c .before .before .before .id-at .ensures) in
+    (omega arith, rw (← add-assoc (a .at) (l .i) 1) (writing-more (rw (drop-of (ids 4) _ _ _ (c .before .before .before .before .before .loop-test .taken), ← read) at (l .inv .1)) (c .before .before .write-id .ensures)))
 
 same-length : tie.Need-same-length Inv-loop μ-loop
 same-length c = c .before .loop .inv .1 .kept
