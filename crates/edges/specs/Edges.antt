@@ -1,21 +1,30 @@
 -- Document 01, "Each edge (* proved)": the starred cases as one table, and one theorem that computes over it. A row has what the definitions give
--- and what document 01 says; a yes is 1, a no is 0.
-use Prim.Native.Nat.{ℕ, zero, suc, _+_}
+-- and what document 01 says; a yes is 1, a no is 0. "Age equal to interval: not due; one more: due" is a case of passes, which are not there yet.
+use Prim.Native.Nat.{ℕ, zero, suc, _+_, _*_}
 use mathlib.Core.Path.{_≡_, refl}
 use mathlib.Core.Bool.{Bool, true, false, _&&_}
 use mathlib.Core.List.{List, [], _∷_}
-use lib.ListN.{getD}
+use lib.ListN.{getD, replicate}
 use native.Mathlib.Omega.{arith}
-use lib.Dec.{eqb, leb}
+use lib.Dec.{eqb}
 use borrow.Author.Tests.{eqb-true}
-use Rattle.words.specs.Sums.{cap, quotientOf}
-use Rattle.types.specs.declared.FeeStrategy.{FeeStrategy}
+use Rattle.words.specs.Sums.{cap}
+use Rattle.words.specs.declared.ids.Id.{Id}
 use Rattle.types.specs.declared.FeeStrategy.the-variants.{FeePerByte, FeePerCycle}
+use Rattle.types.specs.declared.Submission.{Submission}
+use Rattle.types.specs.declared.Source.the-variants.{Local}
+use Rattle.types.specs.declared.Verdict.the-variants.{Absent}
 use Rattle.weight.specs.Weight.{feePerFactor}
 use Rattle.arguments.specs.Arguments.{biased, aheadOf}
 use Rattle.expiring_cache.specs.Cache.{Held, held}
 use Rattle.stats.specs.declared.FeeStats.{FeeStats}
 use Rattle.stats.specs.Stats.{fresh, confirmed, counted, binned, waitFor}
+use Rattle.entries.specs.Entries.{Entry}
+use Rattle.entries.specs.declared.fields.ValidationCost.the-variants.{Unmeasured}
+use Rattle.pool.specs.Pool.{Tables}
+use Rattle.checks.specs.Checks.{listRefusal}
+use Rattle.admit.specs.Admit.{loses}
+use Rattle.fees.specs.Fees.{binOf}
 
 pub record Row : Type 0 where
   pub got : ℕ
@@ -36,13 +45,30 @@ heldAt time = yes? (held 500 time 7 (record { id = 7; since = 1000 } ∷ []))
 abbrev after : ℕ → FeeStats
 after wait = confirmed 60000 (fresh 0) wait 0 9
 
+-- so many in all bins
+abbrev inAll : List ℕ → ℕ
+inAll [] = 0
+inAll (n ∷ ns) = n + inAll ns
+
 -- `taken` 4 in a window that is full
 abbrev four : FeeStats
 four = record { counts = []; totals = []; «window_start» = 0; taken = 4; «snap_time» = 0; «snap_taken» = 0 }
 
--- base at most the floored average of 10 and 15
-abbrev loses : ℕ → ℕ
-loses base = yes? (leb base (quotientOf (10 + 15) 2))
+-- a pooled transaction of this id and weight
+abbrev pooled : ℕ → ℕ → Entry
+pooled id weight = record { id = id; weight = weight; base = weight; size = 0; cost = 0; validationCost = Unmeasured; created = 0; lastChecked = 0; heightKey = 0; inputs = 0 }
+
+-- whether a newcomer of this base loses to its conflicts, transactions 1 and 2 of weights 10 and 15
+abbrev losesTo : ℕ → ℕ
+losesTo base = yes? (loses base (1 ∷ 2 ∷ []) (pooled 1 10 ∷ pooled 2 15 ∷ []))
+
+-- the tests of a submission's lists, of which 7 is the first: n inputs of five words each, no output, and a store without an entry, so that 27
+-- stops what passes 7
+abbrev offered : Submission
+offered = record { time = 0; id = record { a = 0; b = 0; c = 0; d = 1 }; size = 0; preheader = 50; source = Local; verdict = Absent }
+
+abbrev stopsAt : ℕ → ℕ
+stopsAt n = listRefusal 5000 0 0 (record { entries = []; boxes = [] }) offered (replicate (n * 5) 1) []
 
 pub starred : List Row
 starred =
@@ -53,22 +79,26 @@ starred =
     ∷ is (feePerFactor FeePerByte cap 1023 0) cap
     -- "Cost 0 by cycle: factor 1,000"
     ∷ is (feePerFactor FeePerCycle 5000 300 0) 5120
-    -- "Conflicts 10 and 15: 12 loses, 13 wins": the average
-    ∷ is (quotientOf (10 + 15) 2) 12
-    ∷ is (loses 12) 1
-    ∷ is (loses 13) 0
+    -- "Conflicts 10 and 15: 12 loses, 13 wins"
+    ∷ is (losesTo 12) 1
+    ∷ is (losesTo 13) 0
     -- "Age equal to ttl: not held"
     ∷ is (heldAt 1500) 0
     ∷ is (heldAt 1499) 1
     -- "Wait 3,599,999 ms: bin 59; 3,600,000: none, yet counted"
     ∷ is (getD (after 3599999 .counts) 59 0) 1
     ∷ is (getD (after 3599999 .totals) 59 0) 9
-    ∷ is (getD (after 3600000 .counts) 59 0) 0
+    ∷ is (inAll (after 3600000 .counts)) 0
     ∷ is (after 3600000 .taken) 1
+    -- "3 bins, longest 10, wait 9: bin 3"
+    ∷ is (binOf 3 10 9) 3
     -- "taken 4, window full, position 10: 150,000"
     ∷ is (waitFor 60000 four 70000 10) 150000
     -- "Height 2^31 against 50: not ahead"
     ∷ is (yes? (aheadOf (biased 2147483648) 50)) 0
+    -- "Inputs 5,000 pass, 5,001 don't": the next test is 27. Last, for these lists are long to compute
+    ∷ is (stopsAt 5001) 7
+    ∷ is (stopsAt 5000) 27
     ∷ []
 
 abbrev agree : List Row → Bool
@@ -77,7 +107,7 @@ agree (r ∷ rs) = eqb (r .got) (r .due) && agree rs
 
 -- Every row of the table is as document 01 says: computed.
 pub starred-cases : agree starred ≡ true
-unfolding starred fresh confirmed counted binned
+unfolding starred fresh confirmed counted binned loses listRefusal
 starred-cases = refl
 
 -- .. and so is the row at each place
