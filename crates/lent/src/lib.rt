@@ -1,9 +1,12 @@
 // The pool's calls in the form that document 01 names: the statistics are lent and changed in place, the peer records are a lent slice of records.
 // Each call is thin over the one by value, and is proved by hand.
+use peers::PeerRecord;
 use stats::FeeStats;
 use types::BlockOutcome;
 use types::Mempool;
+use types::MempoolConfig;
 use types::NumberOutcome;
+use types::StartOutcome;
 ghost use mathlib.Core.Path.{_≡_};
 ghost use mathlib.Core.Bool.{true};
 ghost use mathlib.Core.List.{List};
@@ -13,7 +16,63 @@ ghost use Rattle.store.specs.Fits.{Testable, Fits};
 ghost use Rattle.blocks.specs.Post.{Post, Untouched, resultOf};
 ghost use Rattle.blocks.specs.Numbers.{ofBlock};
 ghost use Rattle.fees.specs.Fees.{recommended, expectedWait};
+ghost use lib.ListN.{length};
+ghost use Rattle.entries.specs.Layout.{entriesRoom};
+ghost use Rattle.boxes.specs.Layout.{boxesRoom};
+ghost use Rattle.expiring_cache.specs.Layout.{cacheRoom};
+ghost use Rattle.mempool.specs.Start.{sizes, started};
 ghost use Rattle.lent.specs.Blocks.{handed};
+ghost use Rattle.lent.specs.Start.{statsAfter, begun};
+
+// ---- a start
+
+// What a start comes to, by value.
+struct Begun {
+    outcome: StartOutcome,
+    stats: FeeStats,
+}
+
+// Where it is ready the statistics begin anew at `time`; where it is refused they stay.
+fn begin(
+    entries: &[u64],
+    boxes: &[u64],
+    cache: &[u64],
+    peers: usize,
+    stats: FeeStats,
+    time: u64,
+    config: MempoolConfig,
+) -> Begun
+    ensures { λ r. ⌜ r ≡ begun (sizes (entriesRoom (now (entries .entry))) (boxesRoom (now (boxes .entry))) (cacheRoom (now (cache .entry))) peers) config time stats ⌝ }
+{
+    let outcome = mempool::start(entries, boxes, cache, peers, config);
+    match outcome {
+        StartOutcome::Ready(_) => Begun {
+            outcome,
+            stats: FeeStats::new(time),
+        },
+        StartOutcome::NotStarted(_) => Begun { outcome, stats },
+    }
+}
+
+// A pool on a lent store: the state to go on with, or refusal 6. Nothing of the store is changed but the statistics.
+pub fn start(
+    entries: &[u64],
+    boxes: &[u64],
+    cache: &[u64],
+    peers: &[PeerRecord],
+    stats: &mut FeeStats,
+    time: u64,
+    config: MempoolConfig,
+) -> StartOutcome
+    ensures { λ r. ⌜ (r ≡ started (sizes (entriesRoom (now (entries .entry))) (boxesRoom (now (boxes .entry))) (cacheRoom (now (cache .entry))) (length (now (peers .entry)))) config)
+        × (stats .exit .now ≡ statsAfter r time (stats .entry .now)) ⌝ }
+{
+    let done = begin(entries, boxes, cache, peers.len(), *stats, time, config);
+    *stats = done.stats;
+    done.outcome
+}
+
+// ---- a block
 
 // What a block hands back: the state, and what it answers.
 pub struct Blocked {
