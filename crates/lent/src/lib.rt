@@ -1,16 +1,26 @@
 // The pool's calls in the form that document 01 names: the statistics are lent and changed in place, the peer records are a lent slice of records.
 // Each call is thin over the one by value, and is proved by hand.
+pub mod submission;
+
 use peers::PeerRecord;
+use peers::Standing;
+use peers::charge_peer;
+use peers::find_peer;
+use process::Processed;
 use stats::FeeStats;
+use submission::Due;
+use submission::seek;
+use submission::submit;
 use types::BlockOutcome;
 use types::Mempool;
 use types::MempoolConfig;
 use types::NumberOutcome;
 use types::StartOutcome;
+use types::Submission;
 ghost use mathlib.Core.Path.{_≡_};
 ghost use mathlib.Core.Bool.{true};
 ghost use mathlib.Core.List.{List};
-ghost use Prim.Native.Nat.{ℕ};
+ghost use Prim.Native.Nat.{ℕ, min};
 ghost use Rattle.types.specs.Outcomes.{blockOf, numberOf};
 ghost use Rattle.store.specs.Fits.{Testable, Fits};
 ghost use Rattle.blocks.specs.Post.{Post, Untouched, resultOf};
@@ -21,7 +31,13 @@ ghost use Rattle.entries.specs.Layout.{entriesRoom};
 ghost use Rattle.boxes.specs.Layout.{boxesRoom};
 ghost use Rattle.expiring_cache.specs.Layout.{cacheRoom};
 ghost use Rattle.mempool.specs.Start.{sizes, started};
+ghost use Rattle.types.specs.Outcomes.{processedOf};
+ghost use Rattle.process.specs.Numbers.{ofSubmission};
 ghost use Rattle.lent.specs.Blocks.{handed};
+ghost use Rattle.lent.specs.Lent.{LentFits};
+ghost use Rattle.peers.specs.Peers.{peersOf, standing};
+ghost use Rattle.lent.specs.Bills.{askedPeer, Payable, Paid};
+ghost use Rattle.lent.specs.Post.{LentPost, lentResult};
 ghost use Rattle.lent.specs.Start.{statsAfter, begun};
 
 // ---- a start
@@ -136,4 +152,61 @@ pub fn expected_wait_ms_at(
     ensures { λ r. ⌜ numberOf r ≡ expectedWait (now (entries .entry)) (stats .entry .now) mempool time fee size ⌝ }
 {
     fees::expected_wait_ms_at(entries, *stats, mempool, time, fee, size)
+}
+
+// ---- a submission
+
+// Where the peer of a submission stands among the records, on a count that may not fit them.
+pub fn look_up(records: &[PeerRecord], mempool: Mempool, sub: Submission) -> Standing
+    ensures { λ r. ⌜ r ≡ standing (peersOf (now (records .entry)) (min (mempool .sums .peers) (length (now (records .entry))))) (askedPeer (sub .source)) ⌝ }
+{
+    let sought = seek(mempool, sub, records.len());
+    find_peer(records, sought.used, sought.peer)
+}
+
+// Charges what is due to the record of its peer.
+pub fn charge(records: &mut [PeerRecord], due: Due)
+    requires { ⌜ Payable (now records) due ⌝ }
+    ensures { λ _. ⌜ Paid (now (records .entry)) (now (records .exit)) due ⌝ }
+{
+    if due.owed {
+        charge_peer(records, due.used, due.standing, due.peer, due.cost);
+    }
+}
+
+// Submits a transaction: its peer is found, the rest goes by value, and what is due is charged.
+pub fn process(
+    entries: &mut [u64],
+    boxes: &mut [u64],
+    cache: &mut [u64],
+    peers: &mut [PeerRecord],
+    answer: &mut [u64],
+    mempool: Mempool,
+    sub: Submission,
+    inputs: &[u64],
+    outputs: &[u64],
+) -> Processed
+    ensures { λ r. ⌜ (LentFits (now (entries .entry)) (now (boxes .entry)) (now (cache .entry)) (now (peers .entry)) mempool →
+        LentPost mempool r (now (entries .exit)) (now (boxes .exit)) (now (cache .exit)) (now (peers .exit)) (now (answer .entry)) (now (answer .exit))
+        (lentResult (now (entries .entry)) (now (boxes .entry)) (now (cache .entry)) (now (peers .entry)) (now (answer .entry)) mempool sub (now (inputs .entry)) (now (outputs .entry))))
+        × (ofSubmission (processedOf (r .outcome)) ≡ true) ⌝ }
+{
+    let found = look_up(peers, mempool, sub);
+    let done = submit(
+        entries,
+        boxes,
+        cache,
+        answer,
+        peers.len(),
+        found,
+        mempool,
+        sub,
+        inputs,
+        outputs,
+    );
+    charge(peers, done.due);
+    Processed {
+        mempool: done.mempool,
+        outcome: done.outcome,
+    }
 }

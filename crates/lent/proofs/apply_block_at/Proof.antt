@@ -82,7 +82,6 @@ out r = record { mempool = r .mempool; outcome = r .outcome }
 out-is : (r : Applied) (vs : List Val) → Is Ap.the-row r vs → Is Bl.the-row (out r) (LL.vals Bl.the-type Bl′.the-laws (out r))
 out-is r vs is = LL.owes Bl.the-type Bl′.the-laws (out r) (LL.owed Ap.the-type Ap′.the-laws r vs is .0, (LL.owed Ap.the-type Ap′.the-laws r vs is .1 .1 .0, tt))
 
-
 module _ {M : Type 1} (𝓤 : URA M) (H : Heap 𝓤) (A : Atoms 𝓤) (at-mem : Memory → SProp 𝓤) (run : Routine → Fun 𝓤) where
   abbrev Apply : Contract 𝓤
   Apply = tripleOf 𝓤 H A apply.signature (apply.spec 𝓤 H A at-mem run)
@@ -147,7 +146,7 @@ module _ {M : Type 1} (𝓤 : URA M) (H : Heap 𝓤) (A : Atoms 𝓤) (W : Given
       await ! tt $ pick ! (λ r. split ! $ move ! (1 ∷ []) $ pick ! (λ ws. split ! $ move ! (1 ∷ []) $ split ! $ heard ! ((p : List ℕ) → Fits e b k p st → After st r (ws .0) (ws .1 .0) (ws .1 .1 .0) p a (ws .1 .1 .1 .0) (resultOf e b k p a st h t txs ins)) (λ e₀. split ! $ heard ! (ofBlock (blockOf (r .outcome)) ≡ true) (λ e₁. heard ! ((Testable e b k st → ⊥) → Untouched st h r e (ws .0) b (ws .1 .0) k (ws .1 .1 .0) a (ws .1 .1 .1 .0)) (λ e₂.
       fsplit ! $ fsplit ! $ move ! (1 ∷ []) $ feqL ! (λ len₀. move ! (1 ∷ []) $ fsplit ! $ fsplit ! $ move ! (1 ∷ []) $ feqL ! (λ len₁. move ! (1 ∷ []) $ fsplit ! $ fsplit ! $ move ! (1 ∷ []) $ feqL ! (λ len₂. move ! (1 ∷ []) $ fsplit ! $ fsplit ! $ move ! (1 ∷ []) $ feqL ! (λ len₃. move ! (1 ∷ []) $ fsplit ! $ drop ! $ fsplit ! $ drop ! $ fsplit ! $ drop ! $ fsplit ! $ drop ! $ fsplit ! $ drop ! $
       move ! (5 ∷ []) $ split ! $ split ! $ move ! (1 ∷ []) $ split ! $ move ! (1 ∷ []) $ split ! $ move ! (1 ∷ []) $ split ! $ move ! (1 ∷ []) $ split ! $ move ! (1 ∷ []) $ split ! $ at-once ! $
-      show ! (λ (r : Applied). mean 𝓤 H A (some (λ (e′ : List ℕ). some (λ (b′ : List ℕ). some (λ (k′ : List ℕ). some (λ (a′ : List ℕ). given (ApplyFacts r e′ b′ k′ a′) (‵ (flft κ₀ q₀) ⊛ ‵ (flft κ₁ q₁) ⊛ ‵ (flft κ₂ q₂) ⊛ ‵ (flft κ₃ q₃) ⊛ ‵ (flft κ₅ q₅) ⊛ ‵ (flft κ₆ q₆) ⊛ ‵ (finally u64 γ₀ e′) ⊛ ‵ (finally u64 γ₁ b′) ⊛ ‵ (finally u64 γ₂ k′) ⊛ ‵ (finally u64 γ₃ a′) ⊛ ‵ (Ap.the-row .own r (v ∷ []))))))))) r $ show ! (λ (e′ : List ℕ). mean 𝓤 H A (some (λ (b′ : List ℕ). some (λ (k′ : List ℕ). some (λ (a′ : List ℕ). given (ApplyFacts r e′ b′ k′ a′) (‵ (flft κ₀ q₀) ⊛ ‵ (flft κ₁ q₁) ⊛ ‵ (flft κ₂ q₂) ⊛ ‵ (flft κ₃ q₃) ⊛ ‵ (flft κ₅ q₅) ⊛ ‵ (flft κ₆ q₆) ⊛ ‵ (finally u64 γ₀ e′) ⊛ ‵ (finally u64 γ₁ b′) ⊛ ‵ (finally u64 γ₂ k′) ⊛ ‵ (finally u64 γ₃ a′) ⊛ ‵ (Ap.the-row .own r (v ∷ [])))))))) (ws .0) $ show ! (λ (b′ : List ℕ). mean 𝓤 H A (some (λ (k′ : List ℕ). some (λ (a′ : List ℕ). given (ApplyFacts r (ws .0) b′ k′ a′) (‵ (flft κ₀ q₀) ⊛ ‵ (flft κ₁ q₁) ⊛ ‵ (flft κ₂ q₂) ⊛ ‵ (flft κ₃ q₃) ⊛ ‵ (flft κ₅ q₅) ⊛ ‵ (flft κ₆ q₆) ⊛ ‵ (finally u64 γ₀ (ws .0)) ⊛ ‵ (finally u64 γ₁ b′) ⊛ ‵ (finally u64 γ₂ k′) ⊛ ‵ (finally u64 γ₃ a′) ⊛ ‵ (Ap.the-row .own r (v ∷ []))))))) (ws .1 .0) $ show ! (λ (k′ : List ℕ). mean 𝓤 H A (some (λ (a′ : List ℕ). given (ApplyFacts r (ws .0) (ws .1 .0) k′ a′) (‵ (flft κ₀ q₀) ⊛ ‵ (flft κ₁ q₁) ⊛ ‵ (flft κ₂ q₂) ⊛ ‵ (flft κ₃ q₃) ⊛ ‵ (flft κ₅ q₅) ⊛ ‵ (flft κ₆ q₆) ⊛ ‵ (finally u64 γ₀ (ws .0)) ⊛ ‵ (finally u64 γ₁ (ws .1 .0)) ⊛ ‵ (finally u64 γ₂ k′) ⊛ ‵ (finally u64 γ₃ a′) ⊛ ‵ (Ap.the-row .own r (v ∷ [])))))) (ws .1 .1 .0) $ show ! (λ (a′ : List ℕ). mean 𝓤 H A (given (ApplyFacts r (ws .0) (ws .1 .0) (ws .1 .1 .0) a′) (‵ (flft κ₀ q₀) ⊛ ‵ (flft κ₁ q₁) ⊛ ‵ (flft κ₂ q₂) ⊛ ‵ (flft κ₃ q₃) ⊛ ‵ (flft κ₅ q₅) ⊛ ‵ (flft κ₆ q₆) ⊛ ‵ (finally u64 γ₀ (ws .0)) ⊛ ‵ (finally u64 γ₁ (ws .1 .0)) ⊛ ‵ (finally u64 γ₂ (ws .1 .1 .0)) ⊛ ‵ (finally u64 γ₃ a′) ⊛ ‵ (Ap.the-row .own r (v ∷ []))))) (ws .1 .1 .1 .0) $ check ! (e₀, e₁, e₂, len₀, len₁, len₂, len₃) $ keep ! (6 ∷ 5 ∷ 4 ∷ 3 ∷ 2 ∷ 0 ∷ 12 ∷ 11 ∷ 10 ∷ 9 ∷ 7 ∷ []) $ done ! )))))))))
+      show ! (λ (r : Applied). mean 𝓤 H A (some (λ (e′ : List ℕ). some (λ (b′ : List ℕ). some (λ (k′ : List ℕ). some (λ (a′ : List ℕ). given (ApplyFacts r e′ b′ k′ a′) (‵ (flft κ₀ q₀) ⊛ ‵ (flft κ₁ q₁) ⊛ ‵ (flft κ₂ q₂) ⊛ ‵ (flft κ₃ q₃) ⊛ ‵ (flft κ₅ q₅) ⊛ ‵ (flft κ₆ q₆) ⊛ ‵ (finally u64 γ₀ e′) ⊛ ‵ (finally u64 γ₁ b′) ⊛ ‵ (finally u64 γ₂ k′) ⊛ ‵ (finally u64 γ₃ a′) ⊛ ‵ (Ap.the-row .own r (v ∷ []))))))))) r $ show ! (λ (e′ : List ℕ). mean 𝓤 H A (some (λ (b′ : List ℕ). some (λ (k′ : List ℕ). some (λ (a′ : List ℕ). given (ApplyFacts r e′ b′ k′ a′) (‵ (flft κ₀ q₀) ⊛ ‵ (flft κ₁ q₁) ⊛ ‵ (flft κ₂ q₂) ⊛ ‵ (flft κ₃ q₃) ⊛ ‵ (flft κ₅ q₅) ⊛ ‵ (flft κ₆ q₆) ⊛ ‵ (finally u64 γ₀ e′) ⊛ ‵ (finally u64 γ₁ b′) ⊛ ‵ (finally u64 γ₂ k′) ⊛ ‵ (finally u64 γ₃ a′) ⊛ ‵ (Ap.the-row .own r (v ∷ [])))))))) (ws .0) $ show ! (λ (b′ : List ℕ). mean 𝓤 H A (some (λ (k′ : List ℕ). some (λ (a′ : List ℕ). given (ApplyFacts r (ws .0) b′ k′ a′) (‵ (flft κ₀ q₀) ⊛ ‵ (flft κ₁ q₁) ⊛ ‵ (flft κ₂ q₂) ⊛ ‵ (flft κ₃ q₃) ⊛ ‵ (flft κ₅ q₅) ⊛ ‵ (flft κ₆ q₆) ⊛ ‵ (finally u64 γ₀ (ws .0)) ⊛ ‵ (finally u64 γ₁ b′) ⊛ ‵ (finally u64 γ₂ k′) ⊛ ‵ (finally u64 γ₃ a′) ⊛ ‵ (Ap.the-row .own r (v ∷ []))))))) (ws .1 .0) $ show ! (λ (k′ : List ℕ). mean 𝓤 H A (some (λ (a′ : List ℕ). given (ApplyFacts r (ws .0) (ws .1 .0) k′ a′) (‵ (flft κ₀ q₀) ⊛ ‵ (flft κ₁ q₁) ⊛ ‵ (flft κ₂ q₂) ⊛ ‵ (flft κ₃ q₃) ⊛ ‵ (flft κ₅ q₅) ⊛ ‵ (flft κ₆ q₆) ⊛ ‵ (finally u64 γ₀ (ws .0)) ⊛ ‵ (finally u64 γ₁ (ws .1 .0)) ⊛ ‵ (finally u64 γ₂ k′) ⊛ ‵ (finally u64 γ₃ a′) ⊛ ‵ (Ap.the-row .own r (v ∷ [])))))) (ws .1 .1 .0) $ show ! (λ (a′ : List ℕ). mean 𝓤 H A (given (ApplyFacts r (ws .0) (ws .1 .0) (ws .1 .1 .0) a′) (‵ (flft κ₀ q₀) ⊛ ‵ (flft κ₁ q₁) ⊛ ‵ (flft κ₂ q₂) ⊛ ‵ (flft κ₃ q₃) ⊛ ‵ (flft κ₅ q₅) ⊛ ‵ (flft κ₆ q₆) ⊛ ‵ (finally u64 γ₀ (ws .0)) ⊛ ‵ (finally u64 γ₁ (ws .1 .0)) ⊛ ‵ (finally u64 γ₂ (ws .1 .1 .0)) ⊛ ‵ (finally u64 γ₃ a′) ⊛ ‵ (Ap.the-row .own r (v ∷ []))))) (ws .1 .1 .1 .0) $ check ! (e₀, e₁, e₂, len₀, len₁, len₂, len₃) $ keep ! (6 ∷ 5 ∷ 4 ∷ 3 ∷ 2 ∷ 0 ∷ 12 ∷ 11 ∷ 10 ∷ 9 ∷ 7 ∷ []) $ done !)))))))))
 
   module _ (C : Calls 𝓤 H) (Λ : Loops 𝓤 H) (fm : FmC 𝓤 H (W .laws) C) (known-apply : Triple 𝓤 (C #blocks·apply-block-at) (Apply 𝓤 H A at-mem run)) where
     abbrev params : List Val

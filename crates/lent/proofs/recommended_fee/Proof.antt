@@ -119,7 +119,7 @@ module _ {M : Type 1} (𝓤 : URA M) (H : Heap 𝓤) (A : Atoms 𝓤) (W : Given
       await ! tt $ pick ! (λ r. split ! $ move ! (1 ∷ []) $ pick ! (λ ws. split ! $ move ! (1 ∷ []) $ heard ! (numberOf r ≡ recommended h st m n) (λ e₀.
       fsplit ! $ drop ! $ fsplit ! $ drop ! $ fsplit ! $ drop ! $ fsplit ! $ drop ! $
       move ! (1 ∷ []) $ split ! $ at-once ! $
-      show ! (λ (r : NumberOutcome). mean 𝓤 H A (given (QueryFacts r) (‵ (Nu.the-row .own r (v ∷ []))))) r $ check ! e₀ $ keep ! (1 ∷ []) $ done ! )))
+      show ! (λ (r : NumberOutcome). mean 𝓤 H A (given (QueryFacts r) (‵ (Nu.the-row .own r (v ∷ []))))) r $ check ! e₀ $ keep ! (1 ∷ []) $ done !)))
 
   module _ (C : Calls 𝓤 H) (Λ : Loops 𝓤 H) (fm : FmC 𝓤 H (W .laws) C) (known-query : Triple 𝓤 (C #fees·recommended-fee) (Query 𝓤 H A at-mem run)) where
     abbrev params : List Val

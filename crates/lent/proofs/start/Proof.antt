@@ -137,7 +137,7 @@ module _ {M : Type 1} (𝓤 : URA M) (H : Heap 𝓤) (A : Atoms 𝓤) (W : Given
       await ! tt $ pick ! (λ r. split ! $ move ! (1 ∷ []) $ pick ! (λ ws. split ! $ move ! (1 ∷ []) $ heard ! (r ≡ begun (sizes (entriesRoom e) (boxesRoom b) (cacheRoom k) (length ys)) c t h) (λ e₀.
       fsplit ! $ drop ! $ fsplit ! $ drop ! $ fsplit ! $ drop ! $ fsplit ! $ drop ! $ fsplit ! $ drop ! $ fsplit ! $ drop ! $ fsplit ! $ drop ! $
       move ! (1 ∷ []) $ split ! $ split ! $ move ! (1 ∷ []) $ split ! $ move ! (1 ∷ []) $ split ! $ at-once ! $
-      show ! (λ (r : Begun). mean 𝓤 H A (given (BeginFacts r) (‵ (flft κ₀ q₀) ⊛ ‵ (flft κ₁ q₁) ⊛ ‵ (flft κ₂ q₂) ⊛ ‵ (Be.the-row .own r (v ∷ []))))) r $ check ! e₀ $ keep ! (3 ∷ 2 ∷ 0 ∷ 4 ∷ []) $ done ! )))
+      show ! (λ (r : Begun). mean 𝓤 H A (given (BeginFacts r) (‵ (flft κ₀ q₀) ⊛ ‵ (flft κ₁ q₁) ⊛ ‵ (flft κ₂ q₂) ⊛ ‵ (Be.the-row .own r (v ∷ []))))) r $ check ! e₀ $ keep ! (3 ∷ 2 ∷ 0 ∷ 4 ∷ []) $ done !)))
 
   module _ (C : Calls 𝓤 H) (Λ : Loops 𝓤 H) (fm : FmC 𝓤 H (W .laws) C) (known-begin : Triple 𝓤 (C #lent·begin) (Begin 𝓤 H A at-mem run)) where
     abbrev params : List Val
