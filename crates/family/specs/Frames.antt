@@ -1,4 +1,5 @@
--- The walk's stack in words: frames of five, a transaction's id and how many of its first inputs are still to be looked at.
+-- The walk's stack in words: frames of five, a transaction's id and how many of the first records still hold inputs to
+-- be looked at.
 use Prim.Native.Nat.{ℕ, _+_, _*_, _≤_}
 use mathlib.Core.Path.{_≡_, refl, ap, _∙_}
 use mathlib.Core.List.{List, [], _∷_, _++_}
@@ -12,17 +13,17 @@ use Rattle.family.specs.declared.frames.Frame.{Frame}
 
 pub record Todo : Type 0 where
   pub id : ℕ
-  pub left : ℕ
+  pub bound : ℕ
 
 -- a frame of the code
 unfoldable pub todoOf : Frame → Todo
-todoOf f = record { id = idOf (f .id); left = f .left }
+todoOf f = record { id = idOf (f .id); bound = f .bound }
 
 unfoldable pub todoDec : List ℕ → Todo
-todoDec b = record { id = idAt b 0; left = getD b 4 0 }
+todoDec b = record { id = idAt b 0; bound = getD b 4 0 }
 
 abbrev pub frameWords : Frame → List ℕ
-frameWords f = idWords (f .id) ++ (f .left ∷ [])
+frameWords f = idWords (f .id) ++ (f .bound ∷ [])
 
 -- the frame at index i, and the first n, the lowest first
 unfoldable pub frameAt : List ℕ → ℕ → Todo
@@ -40,21 +41,21 @@ id-at : (l : List ℕ) (i : ℕ) → idAt l (i * 5) ≡ frameAt l i .id
 unfolding idAt frameAt recAt todoDec
 id-at l i = simp (blk-lit 5 l i, tt {0}, add-zero)
 
-left-at : (l : List ℕ) (i : ℕ) → getD l (i * 5 + 4) 0 ≡ frameAt l i .left
+bound-at : (l : List ℕ) (i : ℕ) → getD l (i * 5 + 4) 0 ≡ frameAt l i .bound
 unfolding frameAt recAt todoDec
-left-at l i = simp (blk-lit 5 l i, tt {0})
+bound-at l i = simp (blk-lit 5 l i, tt {0})
 
 -- what the code reads
-pub get-frame : (l : List ℕ) (i : ℕ) (f : Frame) → idOf (f .id) ≡ idAt l (i * 5) → f .left ≡ getD l (i * 5 + 4) 0 → todoOf f ≡ frameAt l i
+pub get-frame : (l : List ℕ) (i : ℕ) (f : Frame) → idOf (f .id) ≡ idAt l (i * 5) → f .bound ≡ getD l (i * 5 + 4) 0 → todoOf f ≡ frameAt l i
 unfolding todoOf
-get-frame l i f p q = λ t. record { id = (p ∙ id-at l i) t; left = (q ∙ left-at l i) t }
+get-frame l i f p q = λ t. record { id = (p ∙ id-at l i) t; bound = (q ∙ bound-at l i) t }
 
 dec-words : (f : Frame) → todoDec (frameWords f) ≡ todoOf f
 unfolding todoDec todoOf idAt idOf
 dec-words f = refl
 
 -- what it writes: the words of a frame, by a call and a store
-pub put-frame : (l : List ℕ) (i : ℕ) (f : Frame) → FramesOk l (i + 1) → (n : ℕ) → framesOf (set (stored l (i * 5) (idWords (f .id))) (i * 5 + 4) (f .left)) n ≡ set (framesOf l n) i (todoOf f)
+pub put-frame : (l : List ℕ) (i : ℕ) (f : Frame) → FramesOk l (i + 1) → (n : ℕ) → framesOf (set (stored l (i * 5) (idWords (f .id))) (i * 5 + 4) (f .bound)) n ≡ set (framesOf l n) i (todoOf f)
 unfolding framesOf FramesOk
 put-frame l i f h n =
     recs-store 5 todoDec l (frameWords f) i refl (omega arith) n

@@ -12,8 +12,8 @@ use Rattle.types.specs.declared.Counts.{Counts}
 use Rattle.entries.specs.Entries.{credit}
 use Rattle.entries.specs.Layout.{EntriesOk, entriesOf}
 use Rattle.entries.specs.Layout.{Left as Rows}
-use Rattle.boxes.specs.Records.{BoxRec, index, lookup, inputsOf}
-use Rattle.boxes.specs.Layout.{boxesOf}
+use Rattle.boxes.specs.Records.{BoxRec, index, lookup}
+use Rattle.boxes.specs.Layout.{boxesOf, boxes}
 use Rattle.indexes.specs.Parents.{linksOf, lastParent, lookup-one, last-none, last-push}
 use Rattle.indexes.specs.declared.inputs.Parent.{Parent}
 use Rattle.indexes.specs.declared.inputs.Parent.the-variants.{Of, NoParent}
@@ -40,20 +40,20 @@ pub record Turned (e e' fs fs' : List ℕ) (rs : List BoxRec) (n c : ℕ) (w w' 
 -- ---- a visit
 
 -- the frame that the code opens has all inputs of its transaction
-opened : (rs : List BoxRec) (k : Id) (left : ℕ) → left ≡ length (inputsOf (idOf k) rs) → todoOf (record { id = k; left = left }) ≡ whole rs (idOf k)
+opened : (rs : List BoxRec) (k : Id) (bound : ℕ) → bound ≡ length rs → todoOf (record { id = k; bound = bound }) ≡ whole rs (idOf k)
 unfolding todoOf
-opened rs k left e = ap (λ (m : ℕ). record { id = idOf k; left = m }) e
+opened rs k bound e = ap (λ (m : ℕ). record { id = idOf k; bound = m }) e
 
 module _ (rs : List BoxRec) (n c : ℕ) where
-  pub visited : (e e' fs fs₁ fs' : List ℕ) (depth : ℕ) (child : Todo) (p : Id) (left : ℕ) → 0 < depth → Rows e e' n (credit c (idOf p) (entriesOf e n))
-      → ((m : ℕ) → framesOf fs₁ m ≡ set (framesOf fs m) (depth - 1) child) → left ≡ length (inputsOf (idOf p) rs)
-      → ((m : ℕ) → framesOf fs' m ≡ set (framesOf fs₁ m) depth (todoOf (record { id = p; left = left }))) → Visited e e' fs fs' rs n depth c (idOf p) child
-  visited e e' fs fs₁ fs' depth child p left h q s₁ l s₂ =
+  pub visited : (e e' fs fs₁ fs' : List ℕ) (depth : ℕ) (child : Todo) (p : Id) (bound : ℕ) → 0 < depth → Rows e e' n (credit c (idOf p) (entriesOf e n))
+      → ((m : ℕ) → framesOf fs₁ m ≡ set (framesOf fs m) (depth - 1) child) → bound ≡ length rs
+      → ((m : ℕ) → framesOf fs' m ≡ set (framesOf fs₁ m) depth (todoOf (record { id = p; bound = bound }))) → Visited e e' fs fs' rs n depth c (idOf p) child
+  visited e e' fs fs₁ fs' depth child p bound h q s₁ l s₂ =
       let d : depth ≡ depth - 1 + 1 = omega arith in
       record {
         ok = q .ok;
         rows = q .rows;
-        frames = put-end frames fs₁ fs' depth _ s₂ ∙ rw (opened rs p left l) (ap (λ (ts : List Todo). ts ++ (whole rs (idOf p) ∷ [])) (ap (framesOf fs₁) d ∙ put-end frames fs fs₁ (depth - 1) child s₁));
+        frames = put-end frames fs₁ fs' depth _ s₂ ∙ rw (opened rs p bound l) (ap (λ (ts : List Todo). ts ++ (whole rs (idOf p) ∷ [])) (ap (framesOf fs₁) d ∙ put-end frames fs fs₁ (depth - 1) child s₁));
       }
 
   -- ---- a turn: with no visit left, with no parent left in the top frame, and with one that was visited
@@ -62,7 +62,7 @@ module _ (rs : List BoxRec) (n c : ℕ) where
   stopped e fs w h z o = record { ok = o; room = omega arith; less = omega arith; same = rw z }
 
   module _ (e fs : List ℕ) (w : Progress) (h : 0 < w .depth) (top : Frame) (at : todoOf top ≡ frameAt fs (w .depth - 1)) (r : Parent)
-      (found : linksOf r ≡ lastParent (lookup (index true rs)) (inputsOf (idOf (top .id)) rs) (top .left)) where
+      (found : linksOf r ≡ lastParent (lookup (index true rs)) (idOf (top .id)) rs (top .bound)) where
     split : framesOf fs (w .depth) ≡ framesOf fs (w .depth - 1) ++ (todoOf top ∷ [])
     split = let d : w .depth ≡ w .depth - 1 + 1 = omega arith in ap (framesOf fs) d ∙ of-suc frames fs (w .depth - 1) ∙ rw at
 
@@ -77,20 +77,20 @@ module _ (rs : List BoxRec) (n c : ℕ) where
         }
       where
         none : todo rs (todoOf top) ≡ []
-        none = last-none (lookup (index true rs)) (lookup-one (index true rs)) (inputsOf (idOf (top .id)) rs) (top .left) (sym found ∙ ap linksOf q)
+        none = last-none (lookup (index true rs)) (lookup-one (index true rs)) (idOf (top .id)) rs (top .bound) (sym found ∙ ap linksOf q)
 
-    pub went-up : (p : Id) (left : ℕ) → r ≡ Of p left → (w .budget ≡ 0 → ⊥) → (e' fs' : List ℕ) → Visited e e' fs fs' rs n (w .depth) c (idOf p) (todoOf (record { id = top .id; left = left }))
+    pub went-up : (p : Id) (at : ℕ) → r ≡ Of p at → (w .budget ≡ 0 → ⊥) → (e' fs' : List ℕ) → Visited e e' fs fs' rs n (w .depth) c (idOf p) (todoOf (record { id = top .id; bound = at }))
         → Turned e e' fs fs' rs n c w (record { depth = w .depth + 1; budget = w .budget - 1 })
     unfolding todoOf
-    went-up p left q z e' fs' v =
+    went-up p at q z e' fs' v =
         record {
           ok = v .ok;
           room = omega (arith, z);
           less = omega (arith, z);
           same =
               rw (v .frames, v .rows, split)
-              (rest-visit rs c (w .budget) (framesOf fs (w .depth - 1)) (todoOf top) (todoOf (record { id = top .id; left = left })) (idOf p) (entriesOf e n) (omega (arith, z))
-              (λ st. last-push (lookup (index true rs)) (lookup-one (index true rs)) (inputsOf (idOf (top .id)) rs) (top .left) (idOf p) left st (sym found ∙ ap linksOf q)));
+              (rest-visit rs c (w .budget) (framesOf fs (w .depth - 1)) (todoOf top) (todoOf (record { id = top .id; bound = at })) (idOf p) (entriesOf e n) (omega (arith, z))
+              (λ st. last-push (lookup (index true rs)) (lookup-one (index true rs)) (idOf (top .id)) rs (top .bound) (idOf p) at st (sym found ∙ ap linksOf q)));
         }
 
 -- ---- the whole walk, from w₀ to w
@@ -115,11 +115,11 @@ module _ (e₀ e fs₀ fs : List ℕ) (rs : List BoxRec) (n c : ℕ) (w₀ w : P
       sym (rest-none rs c (w .budget) (entriesOf e n)) ∙ ap (λ (ts : List Todo). rest rs c (w .budget) ts (entriesOf e n)) (sym (ap (framesOf fs) z ∙ of-none frames fs)) ∙ k .same
 
 -- it began with the frame of k alone and ended with none
-pub walked-whole : (e e' b fs fs₀ fs' : List ℕ) (x : Counts) (k : Id) (left m c : ℕ) (w : Progress) → PoolFits e b x
-    → left ≡ length (inputsOf (idOf k) (boxesOf b (x .records))) → ((i : ℕ) → framesOf fs₀ i ≡ set (framesOf fs i) 0 (todoOf (record { id = k; left = left })))
+pub walked-whole : (e e' b fs fs₀ fs' : List ℕ) (x : Counts) (k : Id) (m c : ℕ) (w : Progress) → PoolFits e b x
+    → ((i : ℕ) → framesOf fs₀ i ≡ set (framesOf fs i) 0 (todoOf (record { id = k; bound = x .records })))
     → w .depth ≤ 0 → Walking e e' fs₀ fs' (boxesOf b (x .records)) (x .pooled) c (record { depth = 1; budget = m }) w
     → Left e' b x (propagated m c (idOf k) (tablesOf e b x))
-walked-whole e e' b fs fs₀ fs' x k left m c w f l s h g =
+walked-whole e e' b fs fs₀ fs' x k m c w f s h g =
     record {
       fits = record { entries = g .ok; boxes = f .boxes };
       tables = λ t. record { entries = (walk-end e e' fs₀ fs' rs n c _ w g h ∙ ap (λ (ts : List Todo). rest rs c m ts (entriesOf e n)) first ∙ rest-all rs c m (idOf k) (entriesOf e n)) t; boxes = rs };
@@ -132,4 +132,4 @@ walked-whole e e' b fs fs₀ fs' x k left m c w f l s h g =
     n = x .pooled
 
     first : framesOf fs₀ 1 ≡ whole rs (idOf k) ∷ []
-    first = put-end frames fs fs₀ 0 _ s ∙ rw (of-none frames fs, opened rs k left l)
+    first = put-end frames fs fs₀ 0 _ s ∙ rw (of-none frames fs, opened rs k (x .records) (sym (boxes .len b (x .records))))

@@ -1,5 +1,5 @@
--- The walk by frames (docs/DECISIONS.md, D19). A frame stands for the parents that the first inputs of its transaction still give; the frames
--- together stand for the stack of parents, the last frame on top. A turn looks at the last frame: it pops it, or visits its last parent.
+-- The walk by frames (docs/DECISIONS.md, D19). A frame stands for the parents that the inputs of its transaction in the first records
+-- still give; the frames together stand for the stack of parents, the last frame on top. A turn looks at the last frame: it pops it, or visits its last parent.
 use Prim.Native.Nat.{ℕ, zero, suc, _+_, _-_, _<_}
 use mathlib.Core.Path.{_≡_, refl, sym, ap}
 use mathlib.Core.Bool.{true}
@@ -17,11 +17,11 @@ use Rattle.family.specs.Frames.{Todo}
 
 -- the producers of the inputs that a frame has left, in input order
 abbrev pub todo : List BoxRec → Todo → List ℕ
-todo rs t = flat (lookup (index true rs)) (take (t .left) (inputsOf (t .id) rs))
+todo rs t = flat (lookup (index true rs)) (inputsOf (t .id) (take (t .bound) rs))
 
 -- a frame with all inputs of a transaction
 abbrev pub whole : List BoxRec → ℕ → Todo
-whole rs k = record { id = k; left = length (inputsOf k rs) }
+whole rs k = record { id = k; bound = length rs }
 
 -- the stack of parents that frames stand for, over a stack
 abbrev pub pending : List BoxRec → List Todo → List ℕ → List ℕ
@@ -42,7 +42,7 @@ module _ (rs : List BoxRec) (c : ℕ) where
   pending-last (u ∷ ts) t st = pending-last ts t (reverseAux (todo rs u) st)
 
   todo-whole : (k : ℕ) → todo rs (whole rs k) ≡ parents rs k
-  todo-whole k = rw (take-length (inputsOf k rs))
+  todo-whole k = rw (take-length rs)
 
   -- the newcomer's frame alone: the whole walk
   pub rest-all : (b k : ℕ) (es : List Entry) → rest rs c b (whole rs k ∷ []) es ≡ credits c (walked (parents rs) b k) es

@@ -1,5 +1,5 @@
-// The words of the walk's stack: five for each frame, a transaction's id and how many of its first inputs are still to be looked at. Only
-// the functions of this file know the layout.
+// The words of the walk's stack: five for each frame, a transaction's id and a number of records: its inputs in so many of the first
+// ones are still to be looked at. Only the functions of this file know the layout.
 use words::ids::Id;
 use words::ids::load_id;
 use words::ids::put_id;
@@ -12,7 +12,7 @@ pub const FRAME_WORDS: usize = 5;
 
 pub struct Frame {
     pub id: Id,
-    pub left: usize,
+    pub bound: usize,
 }
 
 pub fn load_frame(s: &[u64], at: usize) -> Frame
@@ -21,7 +21,7 @@ pub fn load_frame(s: &[u64], at: usize) -> Frame
 {
     Frame {
         id: load_id(s, at * 5),
-        left: s[at * 5 + 4] as usize,
+        bound: s[at * 5 + 4] as usize,
     }
 }
 
@@ -31,5 +31,5 @@ pub fn store_frame(s: &mut [u64], at: usize, f: Frame)
 {
     let id = f.id;
     put_id(s, at * 5, id);
-    s[at * 5 + 4] = f.left as u64;
+    s[at * 5 + 4] = f.bound as u64;
 }

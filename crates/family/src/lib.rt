@@ -6,7 +6,6 @@ use crate::frames::load_frame;
 use crate::frames::store_frame;
 use entries::table::credit_entry;
 use indexes::inputs::Parent;
-use indexes::inputs::count_inputs;
 use indexes::inputs::last_parent;
 use types::Counts;
 use words::ids::Id;
@@ -49,8 +48,8 @@ fn visit(
 {
     credit_entry(entries, counts.pooled, parent, amount);
     store_frame(frames, depth - 1, child);
-    let left = count_inputs(boxes, counts.records, parent);
-    store_frame(frames, depth, Frame { id: parent, left });
+    let bound = counts.records;
+    store_frame(frames, depth, Frame { id: parent, bound });
 }
 
 // Looks at the top frame: visits the last parent that its inputs have left, or closes it where there is none. With no visit left the walk ends.
@@ -67,12 +66,12 @@ fn turn(
     ensures { λ r. ⌜ Turned (now (entries .entry)) (now (entries .exit)) (now (frames .entry)) (now (frames .exit)) (boxesOf (now (boxes .entry)) (counts .records)) (counts .pooled) amount w r ⌝ }
 {
     let top = load_frame(frames, w.depth - 1);
-    match last_parent(boxes, counts.records, top.id, top.left) {
+    match last_parent(boxes, counts.records, top.id, top.bound) {
         Parent::NoParent => Progress {
             depth: w.depth - 1,
             budget: w.budget,
         },
-        Parent::Of(parent, left) => {
+        Parent::Of(parent, bound) => {
             if w.budget == 0 {
                 return Progress {
                     depth: 0,
@@ -86,7 +85,7 @@ fn turn(
                 counts,
                 frames,
                 w.depth,
-                Frame { id, left },
+                Frame { id, bound },
                 parent,
                 amount,
             );
@@ -112,8 +111,8 @@ fn walk(
     requires { ⌜ FramesOk (now frames) (1 + cap) ⌝ }
     ensures { λ _. ⌜ Left (now (entries .exit)) (now (boxes .entry)) counts (propagated cap amount (idOf id) (tablesOf (now (entries .entry)) (now (boxes .entry)) counts)) ⌝ }
 {
-    let left = count_inputs(boxes, counts.records, id);
-    store_frame(frames, 0, Frame { id, left });
+    let bound = counts.records;
+    store_frame(frames, 0, Frame { id, bound });
     let mut w = Progress {
         depth: 1,
         budget: cap,

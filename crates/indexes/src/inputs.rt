@@ -9,15 +9,15 @@ use words::ids::Id;
 use words::ids::same_id;
 ghost use mathlib.Core.Path.{_≡_};
 ghost use mathlib.Core.Bool.{true};
-ghost use Prim.Native.Nat.{_+_};
+ghost use Prim.Native.Nat.{_+_, min};
 ghost use lib.ListN.{length};
 ghost use Rattle.words.specs.Ids.{idOf};
 ghost use Rattle.boxes.specs.Records.{index, lookup, isInput, inputsOf};
 ghost use Rattle.boxes.specs.Flat.{idsOf};
 ghost use Rattle.boxes.specs.Layout.{BoxesOk, boxAt, boxesOf};
-ghost use Rattle.indexes.specs.Inputs.{Spotted, allAmong};
-ghost use Rattle.indexes.specs.Parents.{linksOf, lastParent};
-ghost use Rattle.indexes.specs.Seeking.{triedAs, tryAt};
+ghost use Rattle.indexes.specs.Owners.{ownerIds};
+ghost use Rattle.indexes.specs.Inputs.{allAmong};
+ghost use Rattle.indexes.specs.Parents.{ofInput, linksOf, lastParent};
 
 // Whether the record at index `at` is an input of a transaction.
 pub(crate) fn is_input(s: &[u64], at: usize, id: Id) -> bool
@@ -50,91 +50,63 @@ pub fn all_listed(s: &[u64], used: usize, id: Id, list: &[u64]) -> bool
     true
 }
 
-// A place among the records: the first `at` of them hold `rank` inputs of a transaction.
-struct Spot {
-    at: usize,
-    rank: usize,
-}
-
-// The place behind the first `j` inputs of a transaction, or behind all if it has fewer.
-fn after_inputs(s: &[u64], used: usize, id: Id, j: usize) -> Spot
-    requires { ⌜ BoxesOk (now s) used ⌝ }
-    ensures { λ r. ⌜ Spotted (now (s .entry)) used (idOf id) j (r .at) (r .rank) ⌝ }
-{
-    let mut at = 0;
-    let mut rank = 0;
-    while at < used {
-        if rank == j {
-            return Spot { at, rank };
-        }
-        if is_input(s, at, id) {
-            rank += 1;
-            at += 1;
-        } else {
-            at += 1;
-        }
-    }
-    Spot { at, rank }
-}
-
 // How many inputs a transaction has, repeats counted.
 pub fn count_inputs(s: &[u64], used: usize, id: Id) -> usize
     requires { ⌜ BoxesOk (now s) used ⌝ }
     ensures { λ r. ⌜ r ≡ length (inputsOf (idOf id) (boxesOf (now (s .entry)) used)) ⌝ }
 {
-    let spot = after_inputs(s, used, id, used);
-    spot.rank
+    let mut at = 0;
+    let mut n = 0;
+    while at < used {
+        if is_input(s, at, id) {
+            n += 1;
+            at += 1;
+        } else {
+            at += 1;
+        }
+    }
+    n
 }
 
-// The producer of an input, and the input's number.
+// The producer of an input, and the index of the input's record.
 pub enum Parent {
     Of(Id, usize),
     NoParent,
 }
 
-// What a record is for the search of a parent.
-enum Try {
-    Hit(Id),
-    Miss,
-    Pass,
-}
-
-// Whether the record at index `at` is an input of a transaction, and who produces its box.
-fn try_at(s: &[u64], used: usize, id: Id, at: usize) -> Try
+// The producer of the box of the record at index `at`, if that is an input of a transaction.
+fn parent_at(s: &[u64], used: usize, id: Id, at: usize) -> Owner
     requires { ⌜ BoxesOk (now s) used ⌝ }
     requires { ⌜ BoxesOk (now s) (at + 1) ⌝ }
-    ensures { λ r. ⌜ triedAs r ≡ tryAt (lookup (index true (boxesOf (now (s .entry)) used))) (idOf id) (boxAt (now (s .entry)) at) ⌝ }
+    ensures { λ r. ⌜ ownerIds r ≡ ofInput (lookup (index true (boxesOf (now (s .entry)) used))) (idOf id) (boxAt (now (s .entry)) at) ⌝ }
 {
     if is_input(s, at, id) {
-        match producer(s, used, box_key(s, at)) {
-            Owner::By(p) => Try::Hit(p),
-            Owner::Nobody => Try::Miss,
-        }
+        producer(s, used, box_key(s, at))
     } else {
-        Try::Pass
+        Owner::Nobody
     }
 }
 
-// The last of the first `j` inputs of a transaction that has a producer: who it is, and the input's number. The records are read from behind
-// the last of these inputs down, so that no more producers are looked up than the answer needs.
-pub fn last_parent(s: &[u64], used: usize, id: Id, j: usize) -> Parent
-    requires { ⌜ BoxesOk (now s) used ⌝ }
-    ensures { λ r. ⌜ linksOf r ≡ lastParent (lookup (index true (boxesOf (now (s .entry)) used))) (inputsOf (idOf id) (boxesOf (now (s .entry)) used)) j ⌝ }
+fn least(a: usize, b: usize) -> usize
+    ensures { λ r. ⌜ r ≡ min a b ⌝ }
 {
-    let spot = after_inputs(s, used, id, j);
-    let mut at = spot.at;
-    let mut rank = spot.rank;
+    if a < b { a } else { b }
+}
+
+// The last input of a transaction in the first `n` records that has a producer: who it is, and the index of the input's record. The records
+// are read from the last of these down, so that no more producers are looked up than the answer needs.
+pub fn last_parent(s: &[u64], used: usize, id: Id, n: usize) -> Parent
+    requires { ⌜ BoxesOk (now s) used ⌝ }
+    ensures { λ r. ⌜ linksOf r ≡ lastParent (lookup (index true (boxesOf (now (s .entry)) used))) (idOf id) (boxesOf (now (s .entry)) used) n ⌝ }
+{
+    let mut at = least(n, used);
     while 0 < at {
         let here = at - 1;
-        match try_at(s, used, id, here) {
-            Try::Hit(p) => {
-                return Parent::Of(p, rank - 1);
+        match parent_at(s, used, id, here) {
+            Owner::By(p) => {
+                return Parent::Of(p, here);
             }
-            Try::Miss => {
-                rank -= 1;
-                at = here;
-            }
-            Try::Pass => {
+            Owner::Nobody => {
                 at = here;
             }
         }

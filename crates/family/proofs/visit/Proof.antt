@@ -1,6 +1,7 @@
 -- `family::visit` meets its contract, from what its calls leave (`visited`). Assumes nothing.
 use borrow.Author.Needs.{needs}
 use native.Mathlib.Omega.{arith}
+use Rattle.boxes.specs.Layout.{boxes}
 use Rattle.family.specs.Frames.{ok-fewer, ok-still}
 use Rattle.family.specs.Steps.{visited}
 use Rattle.family.proofs.visit.Statement.{statement}
@@ -15,11 +16,8 @@ sub-store-frame c = search needs
 store-frame-requires : tie.Need-store-frame-requires
 store-frame-requires c κs = ok-fewer _ _ _ (c .before .before .before .before .before .before .before .before .pre .1 .1) (omega arith)
 
-count-inputs-requires : tie.Need-count-inputs-requires
-count-inputs-requires c κs = search needs
-
 store-frame-requires-2 : tie.Need-store-frame-requires-2
-store-frame-requires-2 c κs = ok-still _ _ _ (c .before .before .before .before .before .before .before .before .before .before .before .before .before .pre .1 .1) (c .before .before .before .before .store-frame .kept .0)
+store-frame-requires-2 c κs = ok-still _ _ _ (c .before .before .before .before .before .before .before .before .before .before .before .before .pre .1 .1) (c .before .before .before .store-frame .kept .0)
 
 same-length : tie.Need-same-length
 same-length c = search needs
@@ -28,7 +26,9 @@ same-length-2 : tie.Need-same-length-2
 same-length-2 c = search needs
 
 returns : tie.Need-returns
-returns c = visited _ _ _ _ _ _ _ _ _ _ _ _ (c .before .before .before .before .before .before .before .before .before .before .before .before .before .before .before .before .pre .1 .0) (c .before .before .before .before .before .before .before .before .before .before .before .credit-entry .ensures) (c .before .before .before .before .before .before .before .store-frame .ensures) (c .before .before .before .before .count-inputs .ensures) (c .before .before .store-frame2 .ensures)
+returns c =
+    let a = c .before .before .before .before .before .before .before .before .before .before .before .before .before .before .before .args in
+    visited _ _ _ _ _ _ _ _ _ _ _ _ (c .before .before .before .before .before .before .before .before .before .before .before .before .before .before .before .pre .1 .0) (c .before .before .before .before .before .before .before .before .before .before .credit-entry .ensures) (c .before .before .before .before .before .before .store-frame .ensures) (omega (arith, boxes .len (a .boxes .now) (a .counts .records))) (c .before .before .store-frame2 .ensures)
 
 pub visit-spec : {M : Type 1} → statement M
 visit-spec =
@@ -37,7 +37,6 @@ visit-spec =
     credit-entry-requires
     sub-store-frame
     store-frame-requires
-    count-inputs-requires
     store-frame-requires-2
     same-length
     same-length-2

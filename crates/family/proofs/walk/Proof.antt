@@ -12,25 +12,22 @@ use Rattle.family.proofs.walk.Statement.{statement}
 use Rattle.family.proofs.walk.Tie as tie
 
 abbrev Inv-loop : tie.InvT-loop
-Inv-loop entries₀ boxes counts frames₀ amount cap left w₀ entries frames w =
+Inv-loop entries₀ boxes counts frames₀ amount cap bound w₀ entries frames w =
     (length entries ≡ length entries₀) × (length frames ≡ length frames₀) × Walking entries₀ entries frames₀ frames (boxesOf boxes (counts .records)) (counts .pooled) amount w₀ w
 
 abbrev μ-loop : tie.MeasureT-loop
-μ-loop entries₀ boxes counts frames₀ amount cap left w₀ entries frames w = w .budget + w .budget + w .depth
-
-count-inputs-requires : tie.Need-count-inputs-requires Inv-loop μ-loop
-count-inputs-requires c κs = search needs
+μ-loop entries₀ boxes counts frames₀ amount cap bound w₀ entries frames w = w .budget + w .budget + w .depth
 
 store-frame-requires : tie.Need-store-frame-requires Inv-loop μ-loop
-store-frame-requires c κs = ok-fewer _ _ _ (c .before .before .before .before .before .pre .1) (omega arith)
+store-frame-requires c κs = ok-fewer _ _ _ (c .before .before .before .before .pre .1) (omega arith)
 
 loop-holds : tie.Need-loop-holds Inv-loop μ-loop
-loop-holds c = (refl, refl, record { ok = c .before .before .before .before .before .before .before .before .pre .0 .entries; room = ok-still _ _ _ (c .before .before .before .before .before .before .before .before .pre .1) (c .before .before .store-frame .kept .0); same = refl })
+loop-holds c = (refl, refl, record { ok = c .before .before .before .before .before .before .before .pre .0 .entries; room = ok-still _ _ _ (c .before .before .before .before .before .before .before .pre .1) (c .before .before .store-frame .kept .0); same = refl })
 
 turn-requires : tie.Need-turn-requires Inv-loop μ-loop
 turn-requires c κs =
     let k = c .before .before .before .before .loop .inv .2 in
-    (record { entries = k .ok; boxes = c .before .before .before .before .before .before .before .before .before .before .before .before .before .pre .0 .boxes }, (c .before .before .if1 .taken, k .room))
+    (record { entries = k .ok; boxes = c .before .before .before .before .before .before .before .before .before .before .before .before .pre .0 .boxes }, (c .before .before .if1 .taken, k .room))
 
 loop-less : tie.Need-loop-less Inv-loop μ-loop
 loop-less c = c .before .before .before .before .turn .ensures .less
@@ -45,7 +42,7 @@ same-length-2 : tie.Need-same-length-2 Inv-loop μ-loop
 same-length-2 c = omega arith
 
 returns : tie.Need-returns Inv-loop μ-loop
-returns c = walked-whole _ _ _ _ _ _ _ _ _ _ _ _ (c .before .before .before .before .before .before .before .before .before .before .before .pre .0) (c .before .before .before .before .before .before .before .count-inputs .ensures) (c .before .before .before .before .before .store-frame .ensures) (c .if1 .left) (c .before .before .loop .inv .2)
+returns c = walked-whole _ _ _ _ _ _ _ _ _ _ _ (c .before .before .before .before .before .before .before .before .before .before .pre .0) (c .before .before .before .before .before .store-frame .ensures) (c .if1 .left) (c .before .before .loop .inv .2)
 
 pub walk-spec : {M : Type 1} → statement M
 walk-spec =
@@ -53,7 +50,6 @@ walk-spec =
     (tie.spec
     Inv-loop
     μ-loop
-    count-inputs-requires
     store-frame-requires
     loop-holds
     turn-requires

@@ -37,7 +37,7 @@ same-length : tie.Need-same-length
 same-length c = search needs
 
 returns : tie.Need-returns
-returns c = λ m. ap (λ (l : List ℕ). framesOf (set l (c .before .before .before .before .before .before .args .at * 5 + 4) (c .before .before .before .before .before .before .args .f .left)) m) (c .before .before .put-id .ensures) ∙ put-frame _ _ _ (c .before .before .before .before .before .before .pre) m
+returns c = λ m. ap (λ (l : List ℕ). framesOf (set l (c .before .before .before .before .before .before .args .at * 5 + 4) (c .before .before .before .before .before .before .args .f .bound)) m) (c .before .before .put-id .ensures) ∙ put-frame _ _ _ (c .before .before .before .before .before .before .pre) m
 
 pub store-frame-spec : {M : Type 1} → statement M
 store-frame-spec =
