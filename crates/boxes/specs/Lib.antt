@@ -3,6 +3,7 @@ pub mod Among
 pub mod Entering
 pub mod Flat
 pub mod Layout
+pub mod Marks
 pub mod Mapped
 pub mod Writing
 pub mod Posts

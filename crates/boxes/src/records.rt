@@ -3,6 +3,9 @@ use crate::lists::among;
 use crate::lists::count_of;
 use crate::lists::has;
 use crate::lists::id_at;
+use crate::marks::MARKS;
+use crate::marks::is_marked;
+use crate::marks::mark_list;
 use crate::rows::BoxRow;
 use crate::rows::box_key;
 use crate::rows::box_live;
@@ -17,11 +20,12 @@ ghost use mathlib.Core.Path.{_≡_};
 ghost use mathlib.Core.Bool.{true, false};
 ghost use mathlib.Core.List.{map, _++_};
 ghost use Prim.Native.Nat.{ℕ, _+_, _*_, _≤_, _<_};
-ghost use lib.ListN.{set, drop};
+ghost use lib.ListN.{length, set, drop};
 ghost use Rattle.words.specs.Ids.{idOf, idAt};
 ghost use Rattle.boxes.specs.Flat.{countOf, idsOf};
 ghost use Rattle.boxes.specs.Layout.{BoxesOk, boxAt, boxesOf};
 ghost use Rattle.boxes.specs.Entering.{overtakenBy, hideTx, newBox, newBoxes};
+ghost use Rattle.boxes.specs.Marks.{Marked};
 ghost use Rattle.boxes.specs.Posts.{Entered, Dropped, Written};
 
 // ---- a transaction leaves
@@ -47,10 +51,12 @@ pub fn drop_owner(s: &mut [u64], used: usize, owner: Id) -> usize
 
 // ---- a transaction enters
 
-// Whether the record at index `at` is live and a newcomer with these lists has its box too.
+// Whether the record at index `at` is live and a newcomer with these lists has its box too. Most records have no mark and are of no further
+// interest.
 fn overtaken(
     s: &[u64],
     at: usize,
+    marks: &[u64],
     inputs: &[u64],
     in_width: usize,
     outputs: &[u64],
@@ -58,8 +64,12 @@ fn overtaken(
 ) -> bool
     requires { ⌜ BoxesOk (now s) (at + 1) ⌝ }
     requires { ⌜ (4 ≤ «in_width») × (4 ≤ «out_width») ⌝ }
+    requires { ⌜ (256 ≤ length (now marks)) × Marked (now marks) (idsOf «in_width» (now inputs)) (idsOf «out_width» (now outputs)) ⌝ }
     ensures { λ r. ⌜ r ≡ overtakenBy (idsOf «in_width» (now (inputs .entry))) (idsOf «out_width» (now (outputs .entry))) (boxAt (now (s .entry)) at) ⌝ }
 {
+    if !is_marked(marks, box_key(s, at)) {
+        return false;
+    }
     if box_live(s, at) {
         if box_out(s, at) {
             has(outputs, out_width, box_key(s, at))
@@ -75,6 +85,7 @@ fn overtaken(
 fn hide_one(
     s: &mut [u64],
     at: usize,
+    marks: &[u64],
     inputs: &[u64],
     in_width: usize,
     outputs: &[u64],
@@ -82,10 +93,33 @@ fn hide_one(
 )
     requires { ⌜ BoxesOk (now s) (at + 1) ⌝ }
     requires { ⌜ (4 ≤ «in_width») × (4 ≤ «out_width») ⌝ }
+    requires { ⌜ (256 ≤ length (now marks)) × Marked (now marks) (idsOf «in_width» (now inputs)) (idsOf «out_width» (now outputs)) ⌝ }
     ensures { λ _. ⌜ ((m : ℕ) → boxesOf (now (s .exit)) m ≡ set (boxesOf (now (s .entry)) m) at (hideTx (idsOf «in_width» (now (inputs .entry))) (idsOf «out_width» (now (outputs .entry))) (boxAt (now (s .entry)) at))) ⌝ }
 {
-    if overtaken(s, at, inputs, in_width, outputs, out_width) {
+    if overtaken(s, at, marks, inputs, in_width, outputs, out_width) {
         hide_box(s, at);
+    }
+}
+
+// Hides each record that is overtaken, by the marks of both lists.
+fn hide_marked(
+    s: &mut [u64],
+    used: usize,
+    marks: &[u64],
+    inputs: &[u64],
+    in_width: usize,
+    outputs: &[u64],
+    out_width: usize,
+)
+    requires { ⌜ BoxesOk (now s) used ⌝ }
+    requires { ⌜ (4 ≤ «in_width») × (4 ≤ «out_width») ⌝ }
+    requires { ⌜ (256 ≤ length (now marks)) × Marked (now marks) (idsOf «in_width» (now inputs)) (idsOf «out_width» (now outputs)) ⌝ }
+    ensures { λ _. ⌜ boxesOf (now (s .exit)) used ≡ map (hideTx (idsOf «in_width» (now (inputs .entry))) (idsOf «out_width» (now (outputs .entry)))) (boxesOf (now (s .entry)) used) ⌝ }
+{
+    let mut i = 0;
+    while i < used {
+        hide_one(s, i, marks, inputs, in_width, outputs, out_width);
+        i += 1;
     }
 }
 
@@ -102,11 +136,10 @@ fn hide_older(
     requires { ⌜ (4 ≤ «in_width») × (4 ≤ «out_width») ⌝ }
     ensures { λ _. ⌜ boxesOf (now (s .exit)) used ≡ map (hideTx (idsOf «in_width» (now (inputs .entry))) (idsOf «out_width» (now (outputs .entry)))) (boxesOf (now (s .entry)) used) ⌝ }
 {
-    let mut i = 0;
-    while i < used {
-        hide_one(s, i, inputs, in_width, outputs, out_width);
-        i += 1;
-    }
+    let mut marks = [0u64; MARKS];
+    mark_list(&mut marks, inputs, in_width);
+    mark_list(&mut marks, outputs, out_width);
+    hide_marked(s, used, &marks, inputs, in_width, outputs, out_width);
 }
 
 // Writes box `i` of a list at index `at` of the free tail. Of a box that the list repeats only the last record is live.

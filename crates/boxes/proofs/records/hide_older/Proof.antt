@@ -1,41 +1,33 @@
--- `records::hide_older` meets its contract. The loop's invariant is `Mapped`: the first i records are changed, and the others as they were. Assumes nothing.
+-- `records::hide_older` meets its contract: both lists are marked (`marked-both`), and the records with a mark are looked at. Assumes nothing.
+use borrow.Author.Needs.{needs}
 use native.Mathlib.Omega.{arith}
-use Prim.Native.Nat.{_-_}
-use mathlib.Core.Path.{_≡_, refl}
-use lib.ListN.{length}
-use Rattle.boxes.specs.Entering.{hideTx}
-use Rattle.boxes.specs.Flat.{idsOf}
-use Rattle.boxes.specs.Layout.{boxesOf, boxes, ok-still, ok-bound}
-use Rattle.boxes.specs.Mapped.{Mapped, mapped-none, mapped-more, mapped-all}
+use Rattle.boxes.specs.Marks.{marked-both}
 use Rattle.boxes.proofs.records.hide_older.Statement.{statement}
 use Rattle.boxes.proofs.records.hide_older.Tie as tie
 
-abbrev Inv-loop : tie.InvT-loop
-Inv-loop s₀ used inputs in-width outputs out-width i₀ s i = (length s ≡ length s₀) × Mapped boxesOf (hideTx (idsOf in-width inputs) (idsOf out-width outputs)) s₀ s used i
+slice-aggregate-mark-list : tie.Need-slice-aggregate-mark-list
+slice-aggregate-mark-list c = search needs
 
-abbrev μ-loop : tie.MeasureT-loop
-μ-loop s₀ used inputs in-width outputs out-width i₀ s i = used - i
+mark-list-requires : tie.Need-mark-list-requires
+mark-list-requires c κs = (search needs, c .before .before .before .before .pre .1 .0)
 
-loop-holds : tie.Need-loop-holds Inv-loop μ-loop
-loop-holds c = (refl, mapped-none boxes _ _ _)
+slice-aggregate-mark-list-2 : tie.Need-slice-aggregate-mark-list-2
+slice-aggregate-mark-list-2 c = search needs
 
-hide-one-requires : tie.Need-hide-one-requires Inv-loop μ-loop
-hide-one-requires c κs = (ok-still _ _ _ _ (c .before .before .before .before .before .before .pre .0) (c .before .before .loop .inv .0) (omega arith), c .before .before .before .before .before .before .pre .1)
+mark-list-requires-2 : tie.Need-mark-list-requires-2
+mark-list-requires-2 c κs = (search needs, c .before .before .before .before .before .before .before .pre .1 .1)
 
-add-i : tie.Need-add-i Inv-loop μ-loop
-add-i c = omega (arith, ok-bound _ _ (c .before .before .before .before .before .before .before .before .before .pre .0))
+slice-aggregate-hide-marked : tie.Need-slice-aggregate-hide-marked
+slice-aggregate-hide-marked c = search needs
 
-loop-less : tie.Need-loop-less Inv-loop μ-loop
-loop-less c = omega arith
+hide-marked-requires : tie.Need-hide-marked-requires
+hide-marked-requires c κs = (c .before .before .before .before .before .before .before .before .before .before .before .pre .0, (c .before .before .before .before .before .before .before .before .before .before .before .pre .1, (search needs, marked-both _ _ _ _ _ (c .before .before .before .before .before .before .mark-list .ensures) (c .before .before .before .mark-list2 .ensures))))
 
-loop-again : tie.Need-loop-again Inv-loop μ-loop
-loop-again c = (omega arith, mapped-more boxes _ _ _ _ _ _ (c .before .before .before .before .loop-test .taken) (c .before .before .before .before .before .loop .inv .1) (c .before .before .hide-one .ensures))
+same-length : tie.Need-same-length
+same-length c = search needs
 
-same-length : tie.Need-same-length Inv-loop μ-loop
-same-length c = omega arith
-
-returns : tie.Need-returns Inv-loop μ-loop
-returns c = mapped-all boxes _ _ _ _ _ (c .loop-test .left) (c .before .loop .inv .1)
+returns : tie.Need-returns
+returns c = c .before .before .hide-marked .ensures
 
 pub hide-older-spec : {M : Type 1} → statement M
-hide-older-spec = tie.close (tie.spec Inv-loop μ-loop loop-holds hide-one-requires add-i loop-less loop-again same-length returns)
+hide-older-spec = tie.close (tie.spec slice-aggregate-mark-list mark-list-requires slice-aggregate-mark-list-2 mark-list-requires-2 slice-aggregate-hide-marked hide-marked-requires same-length returns)

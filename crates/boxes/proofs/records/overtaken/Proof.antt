@@ -1,9 +1,20 @@
 -- `records::overtaken` meets its contract, test by test. Assumes nothing.
 use borrow.Author.Needs.{needs}
 use mathlib.Core.Path.{sym, _∙_}
+use borrow.Author.Tests.{not-true}
 use Rattle.boxes.specs.Entering.{overtaken-output, overtaken-input, overtaken-not}
+use Rattle.boxes.specs.Marks.{unmarked-stays}
 use Rattle.boxes.proofs.records.overtaken.Statement.{statement}
 use Rattle.boxes.proofs.records.overtaken.Tie as tie
+
+box-key-requires : tie.Need-box-key-requires
+box-key-requires c κs = search needs
+
+is-marked-requires : tie.Need-is-marked-requires
+is-marked-requires c κs = search needs
+
+returns : tie.Need-returns
+returns c = unmarked-stays _ _ _ _ _ (c .before .before .before .before .before .before .before .pre .1 .1 .1) (c .before .before .box-key .ensures) (sym (c .before .is-marked .ensures) ∙ not-true _ (c .if1 .taken))
 
 box-live-requires : tie.Need-box-live-requires
 box-live-requires c κs = search needs
@@ -11,26 +22,26 @@ box-live-requires c κs = search needs
 box-out-requires : tie.Need-box-out-requires
 box-out-requires c κs = search needs
 
-box-key-requires : tie.Need-box-key-requires
-box-key-requires c κs = search needs
+box-key-requires-2 : tie.Need-box-key-requires-2
+box-key-requires-2 c κs = search needs
 
 has-requires : tie.Need-has-requires
 has-requires c κs = search needs
 
-box-key-requires-2 : tie.Need-box-key-requires-2
-box-key-requires-2 c κs = search needs
+box-key-requires-3 : tie.Need-box-key-requires-3
+box-key-requires-3 c κs = search needs
 
 has-requires-2 : tie.Need-has-requires-2
 has-requires-2 c κs = search needs
 
-returns : tie.Need-returns
-returns c = overtaken-output _ _ _ (sym (c .before .before .before .before .before .box-live .ensures) ∙ c .before .before .before .before .if1 .taken) (sym (c .before .before .before .box-out .ensures) ∙ c .before .before .if2 .taken) (c .before .box-key .ensures) (c .has .ensures)
-
 returns-2 : tie.Need-returns-2
-returns-2 c = overtaken-input _ _ _ (sym (c .before .before .before .before .before .box-live .ensures) ∙ c .before .before .before .before .if1 .taken) (sym (c .before .before .before .box-out .ensures) ∙ c .before .before .if2 .left) (c .before .box-key2 .ensures) (c .has2 .ensures)
+returns-2 c = overtaken-output _ _ _ (sym (c .before .before .before .before .before .box-live .ensures) ∙ c .before .before .before .before .if2 .taken) (sym (c .before .before .before .box-out .ensures) ∙ c .before .before .if3 .taken) (c .before .box-key2 .ensures) (c .has .ensures)
 
 returns-3 : tie.Need-returns-3
-returns-3 c = overtaken-not _ _ _ (sym (c .before .box-live .ensures) ∙ c .if1 .left)
+returns-3 c = overtaken-input _ _ _ (sym (c .before .before .before .before .before .box-live .ensures) ∙ c .before .before .before .before .if2 .taken) (sym (c .before .before .before .box-out .ensures) ∙ c .before .before .if3 .left) (c .before .box-key3 .ensures) (c .has2 .ensures)
+
+returns-4 : tie.Need-returns-4
+returns-4 c = overtaken-not _ _ _ (sym (c .before .box-live .ensures) ∙ c .if2 .left)
 
 pub overtaken-spec : {M : Type 1} → statement M
-overtaken-spec = tie.close (tie.spec box-live-requires box-out-requires box-key-requires has-requires box-key-requires-2 has-requires-2 returns returns-2 returns-3)
+overtaken-spec = tie.close (tie.spec box-key-requires is-marked-requires returns box-live-requires box-out-requires box-key-requires-2 has-requires box-key-requires-3 has-requires-2 returns-2 returns-3 returns-4)
