@@ -33,6 +33,9 @@ pub record Marked (m : List ℕ) (ins outs : List ℕ) : Type 0 where
 pub marked-both : (m₀ m m' ins outs : List ℕ) → Marking m₀ m ins → Marking m m' outs → Marked m' ins outs
 marked-both m₀ m m' ins outs a b = record { no-input = λ k h. a .new k (b .before k h); no-output = b .new }
 
+pub marked-one : (m₀ m ins : List ℕ) → Marking m₀ m ins → Marked m ins []
+marked-one m₀ m ins a = record { no-input = a .new; no-output = λ k h. refl }
+
 -- ---- the remainder of an id is that of its last word
 
 pub last-word : (x : Id) → x .d % 256 ≡ idOf x % 256

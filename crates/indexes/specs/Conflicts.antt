@@ -10,7 +10,7 @@ use lib.Seq.{drop-drop, drop-set-lt}
 use borrow.Author.Tests.{not-true, not-false}
 use Rattle.words.specs.Lists.{count, flat}
 use Rattle.words.specs.Rows.{stored}
-use Rattle.words.specs.Tables.{drop-of, drop-past, put-end}
+use Rattle.words.specs.Tables.{drop-of, drop-past, of-none, put-end}
 use Rattle.words.specs.Ids.{idOf, idAt, idWords}
 use Rattle.words.specs.declared.ids.Id.{Id}
 use Rattle.boxes.specs.Records.{Pair, lookup, once, dedup, conflicts}
@@ -72,6 +72,11 @@ added-by l m n r o x e q a = rw (← e, q) a
 
 pub added-nobody : (l : List ℕ) (n : ℕ) (o : Owner) {ks : List ℕ} → ownerIds o ≡ ks → o ≡ Nobody → Added l l n n ks
 added-nobody l n o e q = rw (← e, q) (added-none l n)
+
+-- ---- none has a spender: nothing is written
+
+pub listed-none : (l : List ℕ) (n : ℕ) (ks : List ℕ) → ks ≡ [] → Listed l l n 0 ks
+listed-none l n ks e = record { kept = refl; high = omega arith; count = rw e; rows = of-none (ids 4) l ∙ sym e; rest = refl }
 
 -- ---- input by input
 

@@ -1,4 +1,5 @@
 pub mod Owners
+pub mod Spent
 pub mod Conflicts
 pub mod Inputs
 pub mod Parents

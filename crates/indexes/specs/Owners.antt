@@ -39,7 +39,7 @@ module _ (o : Bool) (k : ℕ) (r : BoxRec) (x : ℕ) (e : x ≡ r .box) where
 
 -- ---- record by record
 
-lookup-cons : (o : Bool) (k : ℕ) (r : BoxRec) (rs : List BoxRec) → lookup (index o (r ∷ rs)) k ≡ pick (isEntry o k r) (r .owner ∷ []) (lookup (index o rs) k)
+pub lookup-cons : (o : Bool) (k : ℕ) (r : BoxRec) (rs : List BoxRec) → lookup (index o (r ∷ rs)) k ≡ pick (isEntry o k r) (r .owner ∷ []) (lookup (index o rs) k)
 unfolding isEntry
 lookup-cons o k r rs = go (r .live && same o (r .out)) (eqb (r .box) k) refl
   where
