@@ -5,7 +5,7 @@ use mathlib.Core.Bool.{Bool, true, false, not, _&&_, and-false}
 use mathlib.Core.List.{List, [], _∷_, _++_}
 use native.Mathlib.Omega.{arith}
 use lib.Dec.{eqb}
-use lib.ListN.{length, getD, set, length-set}
+use lib.ListN.{length, getD, set}
 use lib.Seq.{getD-set-same, getD-set-other}
 use borrow.Author.Tests.{eqb-true, eqb-false, eq-eqb, ne-eqb}
 use Rattle.words.specs.Lists.{pick, count, count-append}
@@ -42,14 +42,34 @@ pub last-word : (x : Id) → x .d % 256 ≡ idOf x % 256
 unfolding idOf
 last-word x = omega (arith, join-is (join (join (x .a) (x .b)) (x .c)) (x .d))
 
+-- ---- one id
+
+module _ (m : List ℕ) (x p : ℕ) (e : p ≡ x % 256) (b : p < length m) where
+  -- one that is not marked after is no id of this remainder
+  other : (k : ℕ) → isMarked (set m p 1) k ≡ false → (k % 256 ≡ p → ⊥)
+  unfolding isMarked
+  other k h q =
+      let one : getD (set m p 1) (k % 256) 0 ≡ 1 = rw q (getD-set-same m p 1 0 b) in
+      let z : true ≡ false = ap (λ (w : ℕ). not (eqb w 0)) (sym one) ∙ h in
+      let y : _≡_ {A = ℕ} 0 1 = cc z in
+      omega arith
+
+  still : (k : ℕ) → isMarked (set m p 1) k ≡ false → isMarked m k ≡ false
+  unfolding isMarked
+  still k h = ap (λ (w : ℕ). not (eqb w 0)) (sym (getD-set-other m p (k % 256) 1 0 (other k h))) ∙ h
+
+  pub mark-id : Marking m (set m p 1) (x ∷ [])
+  mark-id = record { before = still; new = λ k h. rw (ne-eqb x k (λ q. other k h (rw (← q) (sym e)))) }
+
 -- ---- id by id
 
-none-more : (k x : ℕ) (ks : List ℕ) → among k ks ≡ false → (x ≡ k → ⊥) → among k (ks ++ (x ∷ [])) ≡ false
-none-more k x ks h n = go (eqb (count k ks) 0) refl h
+none-both : (k : ℕ) (ks js : List ℕ) → among k ks ≡ false → among k js ≡ false → among k (ks ++ js) ≡ false
+none-both k ks js h g = go (eqb (count k ks) 0) refl h (eqb (count k js) 0) refl g
   where
-    go : (t : Bool) → eqb (count k ks) 0 ≡ t → not t ≡ false → among k (ks ++ (x ∷ [])) ≡ false
-    go true q z = rw (count-append k ks (x ∷ []), ne-eqb x k n, eqb-true (count k ks) 0 q)
-    go false q z = cc
+    go : (t : Bool) → eqb (count k ks) 0 ≡ t → not t ≡ false → (u : Bool) → eqb (count k js) 0 ≡ u → not u ≡ false → among k (ks ++ js) ≡ false
+    go true p z true q y = rw (count-append k ks js, eqb-true (count k ks) 0 p, eqb-true (count k js) 0 q)
+    go true p z false q y = cc
+    go false p z u q y = cc
 
 -- of the first i ids
 pub record MarkedTo (W : ℕ) (list m₀ m : List ℕ) (i : ℕ) : Type 0 where
@@ -60,30 +80,16 @@ module _ (W : ℕ) (list : List ℕ) where
   pub mark-none : (m : List ℕ) → MarkedTo W list m m 0
   mark-none m = record { size = refl; marks = record { before = λ k h. h; new = λ k h. rw (of-none (ids W) list) } }
 
-  module _ (m₀ m : List ℕ) (i p : ℕ) (e : p ≡ idAt list (i * W) % 256) (b : p < length m) (a : MarkedTo W list m₀ m i) where
-    -- one that is not marked after is no id of this remainder
-    other : (k : ℕ) → isMarked (set m p 1) k ≡ false → (k % 256 ≡ p → ⊥)
-    unfolding isMarked
-    other k h q =
-        let one : getD (set m p 1) (k % 256) 0 ≡ 1 = rw q (getD-set-same m p 1 0 b) in
-        let z : true ≡ false = ap (λ (w : ℕ). not (eqb w 0)) (sym one) ∙ h in
-        let y : _≡_ {A = ℕ} 0 1 = cc z in
-        omega arith
-
-    still : (k : ℕ) → isMarked (set m p 1) k ≡ false → isMarked m k ≡ false
-    unfolding isMarked
-    still k h = ap (λ (w : ℕ). not (eqb w 0)) (sym (getD-set-other m p (k % 256) 1 0 (other k h))) ∙ h
-
-    pub mark-more : MarkedTo W list m₀ (set m p 1) (i + 1)
-    mark-more =
-        record {
-          size = simp length-set (a .size);
-          marks =
-              record {
-                before = λ k h. a .marks .before k (still k h);
-                new = λ k h. rw (of-suc (ids W) list i) (none-more k _ (idsTo W list i) (a .marks .new k (still k h)) (λ q. other k h (rw (← q) (sym e))));
-              };
-        }
+  pub mark-more : (m₀ m m' : List ℕ) (i x : ℕ) → length m' ≡ length m → x ≡ idAt list (i * W) → Marking m m' (x ∷ []) → MarkedTo W list m₀ m i → MarkedTo W list m₀ m' (i + 1)
+  mark-more m₀ m m' i x g e b a =
+      record {
+        size = g ∙ a .size;
+        marks =
+            record {
+              before = λ k h. a .marks .before k (b .before k h);
+              new = λ k h. rw (of-suc (ids W) list i, ← e) (none-both k (idsTo W list i) (x ∷ []) (a .marks .new k (b .before k h)) (b .new k h));
+            };
+      }
 
   pub mark-all : (m₀ m : List ℕ) (i : ℕ) → i ≡ countOf W list → MarkedTo W list m₀ m i → Marking m₀ m (idsOf W list)
   mark-all m₀ m i e a = rw e at (a .marks)

@@ -4,6 +4,7 @@ use crate::lists::count_of;
 use crate::lists::id_at;
 use words::ids::Id;
 ghost use mathlib.Core.Path.{_≡_};
+ghost use mathlib.Core.List.{_∷_, []};
 ghost use Prim.Native.Nat.{_≤_, _%_};
 ghost use lib.ListN.{length};
 ghost use Rattle.words.specs.Ids.{idOf};
@@ -18,6 +19,14 @@ fn mark_of(id: Id) -> usize
     (id.d % 256) as usize
 }
 
+pub fn mark_id(marks: &mut [u64], id: Id)
+    requires { ⌜ 256 ≤ length (now marks) ⌝ }
+    ensures { λ _. ⌜ Marking (now (marks .entry)) (now (marks .exit)) (idOf id ∷ []) ⌝ }
+{
+    let at = mark_of(id);
+    marks[at] = 1;
+}
+
 // Marks each id of a list.
 pub fn mark_list(marks: &mut [u64], list: &[u64], width: usize)
     requires { ⌜ 256 ≤ length (now marks) ⌝ }
@@ -27,8 +36,7 @@ pub fn mark_list(marks: &mut [u64], list: &[u64], width: usize)
     let n = count_of(list, width);
     let mut i = 0;
     while i < n {
-        let at = mark_of(id_at(list, width, i));
-        marks[at] = 1;
+        mark_id(marks, id_at(list, width, i));
         i += 1;
     }
 }

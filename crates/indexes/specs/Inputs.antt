@@ -57,7 +57,7 @@ module _ (cs : List ℕ) (l : List ℕ) (n i : ℕ) (h : i < n) (k : ℕ) (t : i
 -- ---- how many inputs stand in the first records
 
 -- one record more
-inputs-suc : (l : List ℕ) (i k : ℕ) → inputsOf k (boxesOf l (i + 1)) ≡ inputsOf k (boxesOf l i) ++ pick (isInput k (boxAt l i)) (boxAt l i .box ∷ []) []
+pub inputs-suc : (l : List ℕ) (i k : ℕ) → inputsOf k (boxesOf l (i + 1)) ≡ inputsOf k (boxesOf l i) ++ pick (isInput k (boxAt l i)) (boxAt l i .box ∷ []) []
 inputs-suc l i k = rw (of-suc boxes l i) (inputs-split k (boxesOf l i) (boxAt l i ∷ []))
 
 pub record Counting (l : List ℕ) (used k at n : ℕ) : Type 0 where

@@ -5,3 +5,4 @@ pub mod Inputs
 pub mod Parents
 pub mod Seeking
 pub mod Resolved
+pub mod Orphans

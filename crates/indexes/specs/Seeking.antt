@@ -8,17 +8,17 @@ use native.Mathlib.Nat.{add-zero, zero-add, add-suc, suc-add}
 use native.Mathlib.Omega.{arith}
 use lib.ListN.{length, take}
 use lib.Seq.{take-all}
-use Rattle.words.specs.Lists.{pick}
+use Rattle.words.specs.Lists.{pick, flat}
 use Rattle.words.specs.Tables.{of-none, of-suc}
 use Rattle.words.specs.Ids.{idOf}
 use Rattle.words.specs.declared.ids.Id.{Id}
-use Rattle.boxes.specs.Records.{BoxRec, isInput}
+use Rattle.boxes.specs.Records.{BoxRec, isInput, inputsOf}
 use Rattle.boxes.specs.Layout.{boxAt, boxesOf, boxes}
 use Rattle.indexes.specs.Owners.{ownerIds}
 use Rattle.indexes.specs.declared.owners.Owner.{Owner}
 use Rattle.indexes.specs.declared.owners.Owner.the-variants.{By, Nobody}
 use Rattle.indexes.specs.declared.inputs.Parent.the-variants.{Of}
-use Rattle.indexes.specs.Parents.{Link, orElse, lastFrom, ofInput, lastParent, linksOf}
+use Rattle.indexes.specs.Parents.{Link, orElse, lastFrom, ofInput, lastParent, linksOf, AtMostOne, none-last}
 
 -- ---- one record more at the end
 
@@ -45,6 +45,10 @@ first-records l used n at e = go (decLe n used)
 module _ (f : ℕ → List ℕ) (l : List ℕ) (used k n : ℕ) where
   pub seek-first : (at : ℕ) → at ≡ min n used → Seeking f l used k n at
   seek-first at e = record { low = omega arith; same = ap (λ (rs : List BoxRec). lastFrom (ofInput f k) 0 rs []) (first-records l used n at e) }
+
+  -- the inputs there are seen to have no producer
+  pub seek-none : AtMostOne f → (at : ℕ) → at ≡ min n used → flat f (inputsOf k (boxesOf l at)) ≡ [] → [] ≡ lastParent f k (boxesOf l used) n
+  seek-none one at e h = sym (none-last f one k (boxesOf l at) h) ∙ ap (λ (rs : List BoxRec). lastFrom (ofInput f k) 0 rs []) (first-records l used n at e)
 
   pub seek-end : (at : ℕ) → at ≤ 0 → Seeking f l used k n at → [] ≡ lastParent f k (boxesOf l used) n
   seek-end at h s =

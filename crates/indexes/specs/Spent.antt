@@ -58,7 +58,7 @@ no-spender ins b h (r ∷ rs) e =
     let p = or-none (overtakenBy ins [] r) (anySpent ins rs) e in
     lookup-cons false b r rs ∙ rw (no-entry ins b r h (p .0)) (no-spender ins b h rs (p .1))
 
-flat-none : (f : ℕ → List ℕ) (ks : List ℕ) → ((b : ℕ) → among b ks ≡ true → f b ≡ []) → flat f ks ≡ []
+pub flat-none : (f : ℕ → List ℕ) (ks : List ℕ) → ((b : ℕ) → among b ks ≡ true → f b ≡ []) → flat f ks ≡ []
 flat-none f [] h = refl
 flat-none f (k ∷ ks) h =
     rw (h k (among-cons k k ks ∙ rw (eq-eqb k k refl)))

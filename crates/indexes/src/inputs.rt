@@ -1,4 +1,5 @@
 // The inputs of a pooled transaction, in order: its input records.
+use crate::orphans::no_parent;
 use crate::owners::Owner;
 use crate::owners::producer;
 use boxes::lists::has;
@@ -100,6 +101,9 @@ pub fn last_parent(s: &[u64], used: usize, id: Id, n: usize) -> Parent
     ensures { λ r. ⌜ linksOf r ≡ lastParent (lookup (index true (boxesOf (now (s .entry)) used))) (idOf id) (boxesOf (now (s .entry)) used) n ⌝ }
 {
     let mut at = least(n, used);
+    if no_parent(s, used, id, at) {
+        return Parent::NoParent;
+    }
     while 0 < at {
         let here = at - 1;
         match parent_at(s, used, id, here) {

@@ -1,9 +1,7 @@
 -- `marks::mark_list` meets its contract. The loop's invariant is `MarkedTo`: the first i ids are marked. Assumes nothing.
 use native.Mathlib.Omega.{arith}
-use Prim.Native.Nat.{_-_, _<_, _≤_, _%_, _*_}
-use mathlib.Core.Path.{_≡_, refl, ap, _∙_}
-use lib.ListN.{length}
-use Rattle.words.specs.Ids.{idAt}
+use Prim.Native.Nat.{_-_, _≤_}
+use mathlib.Core.Path.{_≡_}
 use Rattle.boxes.specs.Flat.{countOf, count-le}
 use Rattle.boxes.specs.Marks.{MarkedTo, mark-none, mark-more, mark-all}
 use Rattle.boxes.proofs.marks.mark_list.Statement.{statement}
@@ -22,30 +20,19 @@ loop-holds : tie.Need-loop-holds Inv-loop μ-loop
 loop-holds c = (omega arith, mark-none _ _ _)
 
 id-at-requires : tie.Need-id-at-requires Inv-loop μ-loop
-id-at-requires c κs = (c .before .before .before .before .before .pre .1, omega arith)
+id-at-requires c κs = (c .before .before .before .before .before .before .pre .1, omega arith)
 
-mark-of-requires : tie.Need-mark-of-requires Inv-loop μ-loop
-mark-of-requires c κs = tt
-
-mul-marks : tie.Need-mul-marks Inv-loop μ-loop
-mul-marks c = omega arith
-
-slice-write-marks : tie.Need-slice-write-marks Inv-loop μ-loop
-slice-write-marks c = omega (arith, c .before .before .before .loop .inv .1 .size)
+mark-id-requires : tie.Need-mark-id-requires Inv-loop μ-loop
+mark-id-requires c κs = omega (arith, c .before .before .before .loop .inv .1 .size)
 
 add-i : tie.Need-add-i Inv-loop μ-loop
-add-i c = omega (arith, count-le (c .before .before .before .before .before .before .before .args .width) (c .before .before .before .before .before .before .before .args .list .now))
+add-i c = omega (arith, count-le (c .before .before .before .before .before .before .before .before .before .before .args .width) (c .before .before .before .before .before .before .before .before .before .before .args .list .now))
 
 loop-less : tie.Need-loop-less Inv-loop μ-loop
 loop-less c = omega arith
 
 loop-again : tie.Need-loop-again Inv-loop μ-loop
-loop-again c =
-    let a = c .before .before .before .before .before .before .before .args in
-    let k = c .before .before .before .loop in
-    let e : c .mark-of .result ≡ idAt (a .list .now) (k .i * a .width) % 256 = omega (arith, c .mark-of .ensures, c .before .id-at .ensures) in
-    let b : c .mark-of .result < length (k .marks) = omega (arith, k .inv .1 .size) in
-    (omega arith, mark-more _ _ _ _ _ _ e b (k .inv .1))
+loop-again c = (omega arith, mark-more _ _ _ _ _ _ _ (c .before .before .mark-id .kept .0) (c .before .before .before .id-at .ensures) (c .before .before .mark-id .ensures) (c .before .before .before .before .before .before .loop .inv .1))
 
 same-length : tie.Need-same-length Inv-loop μ-loop
 same-length c = c .before .loop .inv .1 .size
@@ -57,4 +44,4 @@ returns c =
     mark-all _ _ _ _ _ e (c .before .loop .inv .1)
 
 pub mark-list-spec : {M : Type 1} → statement M
-mark-list-spec = tie.close (tie.spec Inv-loop μ-loop count-of-requires loop-holds id-at-requires mark-of-requires mul-marks slice-write-marks add-i loop-less loop-again same-length returns)
+mark-list-spec = tie.close (tie.spec Inv-loop μ-loop count-of-requires loop-holds id-at-requires mark-id-requires add-i loop-less loop-again same-length returns)
