@@ -2,7 +2,7 @@
 -- "A submission"). The call by value says what is due; the records are charged with it.
 use Prim.Native.Nat.{ℕ, _+_, _≤_, min}
 use mathlib.Core.Path.{_≡_, refl, sym, ap, _∙_}
-use mathlib.Core.Bool.{Bool, true, false}
+use mathlib.Core.Bool.{true, false}
 use mathlib.Core.List.{List}
 use native.Mathlib.Omega.{arith}
 use lib.ListN.{length}
@@ -16,7 +16,7 @@ use Rattle.peers.specs.Peers.{peersOf, standing, chargePeer, noneFree, usedAfte
 use Rattle.peers.specs.Laws.{room-after}
 use Rattle.peers.specs.declared.PeerRecord.{PeerRecord}
 use Rattle.peers.specs.declared.Standing.{Standing}
-use Rattle.peers.specs.declared.Standing.the-variants.{Has, Free}
+use Rattle.peers.specs.declared.Standing.the-variants.{Free}
 use Rattle.checks.specs.Checks.{remote}
 use Rattle.admit.specs.Admit.{chargedSum}
 use Rattle.process.specs.Process.{standingOf, chargedPeers}
@@ -33,13 +33,13 @@ askedPeer (Peer p) = p
 abbrev pub soughtOf : Mempool → Submission → ℕ → Sought
 soughtOf st a n = record { used = min (st .sums .peers) n; peer = askedPeer (a .source) }
 
-abbrev pub heldBack : Source → Standing → Standing
-heldBack Local at = Free
-heldBack (Peer p) at = at
+abbrev pub standingFor : Source → Standing → Standing
+standingFor Local at = Free
+standingFor (Peer p) at = at
 
 -- what was found is where the submission's peer stands
 pub stands : (from : Source) (ys : List PeerRecord) (used n : ℕ) {found : Standing} → used ≤ n → found ≡ standing (peersOf ys (min used n)) (askedPeer from)
-    → heldBack from found ≡ standingOf from (peersOf ys used)
+    → standingFor from found ≡ standingOf from (peersOf ys used)
 stands Local ys used n h q = refl
 stands (Peer p) ys used n h q = let e : min used n ≡ used = omega arith in q ∙ ap (λ (i : ℕ). standing (peersOf ys i) p) e
 

@@ -1,5 +1,6 @@
+pub mod Lent
+pub mod Flat
 pub mod Blocks
 pub mod Start
-pub mod Lent
 pub mod Bills
 pub mod Post

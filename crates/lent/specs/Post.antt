@@ -1,16 +1,15 @@
 -- What a submission leaves where the peer records are lent, as its contract says it: `Post` of crate process, of those records.
 use Prim.Native.Nat.{ℕ, _/_, min}
-use mathlib.Core.Path.{_≡_, refl, sym, ap, _∙_}
-use mathlib.Core.Bool.{Bool, true, false}
+use mathlib.Core.Path.{_≡_, refl, ap, _∙_}
+use mathlib.Core.Bool.{true}
 use mathlib.Core.List.{List}
 use native.Mathlib.Omega.{arith}
 use lib.ListN.{length}
 use Rattle.words.specs.Ids.{idOf}
 use Rattle.types.specs.declared.Mempool.{Mempool}
 use Rattle.types.specs.declared.Submission.{Submission}
-use Rattle.types.specs.declared.Source.{Source}
 use Rattle.types.specs.declared.Verdict.{Verdict}
-use Rattle.types.specs.declared.Verdict.the-variants.{Valid, Invalid, Absent}
+use Rattle.types.specs.declared.Verdict.the-variants.{Invalid, Absent}
 use Rattle.types.specs.declared.ProcessingOutcome.{ProcessingOutcome}
 use Rattle.types.specs.declared.ProcessingOutcome.the-variants.{Declined, VerdictNeeded}
 use Rattle.types.specs.Outcomes.{Outcome, refused, needed, processedOf}
@@ -28,8 +27,8 @@ use Rattle.process.specs.Process.{Limits, standingOf, admitted, judged, process
 use Rattle.process.specs.Post.{limitsOf}
 use Rattle.process.specs.Numbers.{ofSubmission, numbered}
 use Rattle.process.specs.declared.Processed.{Processed}
-use Rattle.lent.specs.Lent.{lentWorld, Ready, LentFits}
-use Rattle.lent.specs.Bills.{askedPeer, heldBack, stands, noDue, billOf, Payable, Paid, Billed, billed, nothing-due}
+use Rattle.lent.specs.Lent.{lentWorld, LentFits}
+use Rattle.lent.specs.Bills.{askedPeer, standingFor, stands, noDue, billOf, Payable, Paid, Billed, billed, nothing-due}
 use Rattle.lent.specs.declared.submission.Due.{Due}
 use Rattle.lent.specs.declared.submission.Bill.{Bill}
 use Rattle.lent.specs.declared.submission.Submitted.{Submitted}
@@ -136,7 +135,7 @@ bills ys {st} {sub = sub} cost f q h z = rw z (billed (sub .source) ys (st .sums
 -- ---- as the call claims it
 
 -- where its peer stands, of what was found among so many records as are lent
-pub placed : {e b k : List ℕ} (ys : List PeerRecord) {st : Mempool} {n : ℕ} (sub : Submission) {found at : Standing} → LentFits e b k ys st → length ys ≡ n → at ≡ heldBack (sub .source) found
+pub placed : {e b k : List ℕ} (ys : List PeerRecord) {st : Mempool} {n : ℕ} (sub : Submission) {found at : Standing} → LentFits e b k ys st → length ys ≡ n → at ≡ standingFor (sub .source) found
     → found ≡ standing (peersOf ys (min (st .sums .peers) n)) (askedPeer (sub .source)) → at ≡ standingOf (sub .source) (peersOf ys (st .sums .peers))
 placed ys {st} {n} sub f l h q = h ∙ stands (sub .source) ys (st .sums .peers) n (omega (arith, f .ready .used, f .records, l)) q
 

@@ -1,5 +1,5 @@
--- A start on lent statistics. "an empty pool, no charge, no pass" has statistics at their beginning (document 01, "Fee and wait"; stats.rs, `new`);
--- refused, "nothing changes".
+-- A start on lent statistics: accepted, they begin at its time (stats.rs, `new`; document 01: "its start's time is 0" of poolrun's); refused,
+-- "nothing changes".
 use Prim.Native.Nat.{ℕ}
 use mathlib.Core.Path.{_≡_, sym, ap, _∙_}
 use Rattle.types.specs.declared.Mempool.{Mempool}

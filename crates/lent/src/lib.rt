@@ -20,25 +20,25 @@ use types::Submission;
 ghost use mathlib.Core.Path.{_≡_};
 ghost use mathlib.Core.Bool.{true};
 ghost use mathlib.Core.List.{List};
-ghost use Prim.Native.Nat.{ℕ, min};
-ghost use Rattle.types.specs.Outcomes.{blockOf, numberOf};
-ghost use Rattle.store.specs.Fits.{Testable, Fits};
-ghost use Rattle.blocks.specs.Post.{Post, Untouched, resultOf};
-ghost use Rattle.blocks.specs.Numbers.{ofBlock};
-ghost use Rattle.fees.specs.Fees.{recommended, expectedWait};
+ghost use Prim.Native.Nat.{min};
 ghost use lib.ListN.{length};
+ghost use Rattle.types.specs.Outcomes.{blockOf, numberOf, processedOf};
+ghost use Rattle.expiring_cache.specs.Layout.{cacheRoom};
+ghost use Rattle.peers.specs.Peers.{peersOf, standing};
+ghost use Rattle.peers.specs.declared.PeerRecord.{PeerRecord};
 ghost use Rattle.entries.specs.Layout.{entriesRoom};
 ghost use Rattle.boxes.specs.Layout.{boxesRoom};
-ghost use Rattle.expiring_cache.specs.Layout.{cacheRoom};
+ghost use Rattle.store.specs.Fits.{Testable};
 ghost use Rattle.mempool.specs.Start.{sizes, started};
-ghost use Rattle.types.specs.Outcomes.{processedOf};
 ghost use Rattle.process.specs.Numbers.{ofSubmission};
-ghost use Rattle.lent.specs.Blocks.{handed};
+ghost use Rattle.blocks.specs.Post.{Untouched};
+ghost use Rattle.blocks.specs.Numbers.{ofBlock};
+ghost use Rattle.fees.specs.Fees.{recommended, expectedWait};
 ghost use Rattle.lent.specs.Lent.{LentFits};
-ghost use Rattle.peers.specs.Peers.{peersOf, standing};
+ghost use Rattle.lent.specs.Start.{statsAfter, begun};
+ghost use Rattle.lent.specs.Blocks.{handed, blockResult, LentBlock};
 ghost use Rattle.lent.specs.Bills.{askedPeer, Payable, Paid};
 ghost use Rattle.lent.specs.Post.{LentPost, lentResult};
-ghost use Rattle.lent.specs.Start.{statsAfter, begun};
 
 // ---- a start
 
@@ -108,9 +108,9 @@ pub fn apply_block_at(
     transactions: &[u64],
     inputs: &[u64],
 ) -> Blocked
-    ensures { λ r. ⌜ ((p : List ℕ) → Fits (now (entries .entry)) (now (boxes .entry)) (now (cache .entry)) p mempool →
-        Post mempool (handed r (stats .exit .now)) (now (entries .exit)) (now (boxes .exit)) (now (cache .exit)) p (now (answer .entry)) (now (answer .exit))
-        (resultOf (now (entries .entry)) (now (boxes .entry)) (now (cache .entry)) p (now (answer .entry)) mempool (stats .entry .now) time (now (transactions .entry)) (now (inputs .entry))))
+    ensures { λ r. ⌜ ((ys : List PeerRecord) → LentFits (now (entries .entry)) (now (boxes .entry)) (now (cache .entry)) ys mempool →
+        LentBlock mempool (handed r (stats .exit .now)) (now (entries .exit)) (now (boxes .exit)) (now (cache .exit)) ys (now (answer .entry)) (now (answer .exit))
+        (blockResult (now (entries .entry)) (now (boxes .entry)) (now (cache .entry)) ys (now (answer .entry)) mempool (stats .entry .now) time (now (transactions .entry)) (now (inputs .entry))))
         × (ofBlock (blockOf (r .outcome)) ≡ true)
         × ((Testable (now (entries .entry)) (now (boxes .entry)) (now (cache .entry)) mempool → ⊥) →
         Untouched mempool (stats .entry .now) (handed r (stats .exit .now)) (now (entries .entry)) (now (entries .exit)) (now (boxes .entry)) (now (boxes .exit)) (now (cache .entry)) (now (cache .exit)) (now (answer .entry)) (now (answer .exit))) ⌝ }
@@ -132,6 +132,8 @@ pub fn apply_block_at(
         outcome: applied.outcome,
     }
 }
+
+// ---- the fee queries
 
 // The fee for a transaction of `size` bytes to be confirmed within `minutes`.
 pub fn recommended_fee(stats: &FeeStats, mempool: Mempool, minutes: u32, size: u32) -> NumberOutcome

@@ -25,7 +25,7 @@ ghost use Rattle.checks.specs.Passed.{Passed};
 ghost use Rattle.admit.specs.Admit.{admitSpec};
 ghost use Rattle.process.specs.Process.{standingOf, admitted, judged};
 ghost use Rattle.lent.specs.Lent.{Ready, lentFit, lentWorld, LentFits};
-ghost use Rattle.lent.specs.Bills.{soughtOf, askedPeer, noDue, billOf, heldBack};
+ghost use Rattle.lent.specs.Bills.{soughtOf, askedPeer, noDue, billOf, standingFor};
 ghost use Rattle.lent.specs.Post.{Claims, Offers, lentResult};
 
 // Which peer is to be looked for, among how many records.
@@ -77,8 +77,8 @@ pub fn seek(mempool: Mempool, sub: Submission, records: usize) -> Sought
 }
 
 // Where the peer of a submission stands; a local one stands nowhere.
-fn held_back(source: Source, found: Standing) -> Standing
-    ensures { λ r. ⌜ r ≡ heldBack source found ⌝ }
+fn standing_for(source: Source, found: Standing) -> Standing
+    ensures { λ r. ⌜ r ≡ standingFor source found ⌝ }
 {
     match source {
         Source::Local => Standing::Free,
@@ -294,7 +294,7 @@ pub fn submit(
         };
     }
     let source = sub.source;
-    let standing = held_back(source, found);
+    let standing = standing_for(source, found);
     let code = check(
         entries,
         boxes,

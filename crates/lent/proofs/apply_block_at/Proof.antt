@@ -57,6 +57,7 @@ use Rattle.types.specs.Outcomes.{blockOf}
 use Rattle.store.specs.Fits.{Testable, Fits}
 use Rattle.blocks.specs.Post.{Post as After, Untouched, resultOf}
 use Rattle.blocks.specs.Numbers.{ofBlock}
+use Rattle.lent.specs.Blocks.{lent-block}
 use Rattle.blocks.proofs.apply_block_at as apply
 use Rattle.blocks.proofs.apply_block_at.Symbol as apply-def
 use Rattle.blocks.proofs.apply_block_at.Symbol.{name as #blocks·apply-block-at}
@@ -120,7 +121,7 @@ module _ {M : Type 1} (𝓤 : URA M) (H : Heap 𝓤) (A : Atoms 𝓤) (W : Given
   exits : (r : Applied) (vs : List Val) (is : Is Ap.the-row r vs) (e′ b′ k′ a′ : List ℕ) → ((p : List ℕ) → Fits e b k p st → After st r e′ b′ k′ p a a′ (resultOf e b k p a st h t txs ins)) × (ofBlock (blockOf (r .outcome)) ≡ true) × ((Testable e b k st → ⊥) → Untouched st h r e e′ b b′ k k′ a a′) × (length e′ ≡ length e) × (length b′ ≡ length b) × (length k′ ≡ length k) × (length a′ ≡ length a) → ent 𝓤 (⋆ 𝓤 H A (‵ (flft κ₀ q₀) ∷ ‵ (flft κ₁ q₁) ∷ ‵ (flft κ₂ q₂) ∷ ‵ (flft κ₃ q₃) ∷ ‵ (flft κ₄ q₄) ∷ ‵ (flft κ₅ q₅) ∷ ‵ (flft κ₆ q₆) ∷ ‵ (finally u64 γ₀ e′) ∷ ‵ (finally u64 γ₁ b′) ∷ ‵ (finally u64 γ₂ k′) ∷ ‵ (finally u64 γ₃ a′) ∷ ‵ (fobs γ₄ (S.the-row .coded .code (r .stats))) ∷ ‵ (fbor κ₄ (Body (mem S.the-row) b₄ o₄ γ₄)) ∷ ‵ (ShrSlice (named 5) κ₅ u64 .own (refAt b₅ o₅ γ₅ txs) (sliceVal (b₅, o₅) (length txs) ∷ [])) ∷ ‵ (ShrSlice (named 6) κ₆ u64 .own (refAt b₆ o₆ γ₆ ins) (sliceVal (b₆, o₆) (length ins) ∷ [])) ∷ [])) (Post (LL.val Bl.the-type Bl′.the-laws (out r)))
   exits r vs is e′ b′ k′ a′ q =
       qed W (‵ (flft κ₀ q₀) ∷ ‵ (flft κ₁ q₁) ∷ ‵ (flft κ₂ q₂) ∷ ‵ (flft κ₃ q₃) ∷ ‵ (flft κ₄ q₄) ∷ ‵ (flft κ₅ q₅) ∷ ‵ (flft κ₆ q₆) ∷ ‵ (finally u64 γ₀ e′) ∷ ‵ (finally u64 γ₁ b′) ∷ ‵ (finally u64 γ₂ k′) ∷ ‵ (finally u64 γ₃ a′) ∷ ‵ (fobs γ₄ (S.the-row .coded .code (r .stats))) ∷ ‵ (fbor κ₄ (Body (mem S.the-row) b₄ o₄ γ₄)) ∷ ‵ (ShrSlice (named 5) κ₅ u64 .own (refAt b₅ o₅ γ₅ txs) (sliceVal (b₅, o₅) (length txs) ∷ [])) ∷ ‵ (ShrSlice (named 6) κ₆ u64 .own (refAt b₆ o₆ γ₆ ins) (sliceVal (b₆, o₆) (length ins) ∷ [])) ∷ []) ∵
-      suffices ! _ (ends-at 𝓤 H A f.ended stayed (f.clauses 𝓤 H A at-mem run) W bound (LL.val Bl.the-type Bl′.the-laws (out r)) (out r) (e′, (b′, (k′, (a′, (r .stats, (tt, (tt, (tt, (tt, tt))))))))) (q .3, (q .4, (q .5, (q .6, (tt, (tt, (tt, (tt, (tt, tt)))))))))) $ says ! (q .0, q .1, q .2) $
+      suffices ! _ (ends-at 𝓤 H A f.ended stayed (f.clauses 𝓤 H A at-mem run) W bound (LL.val Bl.the-type Bl′.the-laws (out r)) (out r) (e′, (b′, (k′, (a′, (r .stats, (tt, (tt, (tt, (tt, tt))))))))) (q .3, (q .4, (q .5, (q .6, (tt, (tt, (tt, (tt, (tt, tt)))))))))) $ says ! (lent-block e b k st h t txs ins (q .0), q .1, q .2) $
       nothing ! $ move ! (7 ∷ 0 ∷ []) $ join ! $ move ! (6 ∷ 0 ∷ []) $ join ! $ move ! (5 ∷ 0 ∷ []) $ join ! $ move ! (4 ∷ 0 ∷ []) $ join ! $ move ! (3 ∷ 0 ∷ []) $ join ! $ move ! (2 ∷ 0 ∷ []) $ join ! $ move ! (1 ∷ 0 ∷ []) $ join ! $ frame ! $
       nothing ! $ move ! (8 ∷ 0 ∷ []) $ fjoin ! $ move ! (7 ∷ 0 ∷ []) $ fjoin ! $ owned ! u64 (Is u64) (uint-makes 𝓤 H A W w64) t _ (refl, t-fits) $ fjoin ! $ owned ! Mp.the-row (Is Mp.the-row) (LL.makes Mp.the-type Mp′.the-plain 𝓤 H A) st _ st-is $ fjoin ! $ move ! (5 ∷ 6 ∷ []) $ feqI ! (List Val) (vptr b₄ o₄ ∷ []) (vptr b₄ o₄ ∷ []) refl $ fjoin3 ! $ fjoin ! $ move ! (4 ∷ 0 ∷ []) $ fjoin ! $ move ! (3 ∷ 0 ∷ []) $ fjoin ! $ move ! (2 ∷ 0 ∷ []) $ fjoin ! $ move ! (1 ∷ 0 ∷ []) $ fjoin ! $ owned ! Bl.the-row (Is Bl.the-row) (LL.makes Bl.the-type Bl′.the-plain 𝓤 H A) (out r) _ (out-is r _ is) $ move ! (1 ∷ 0 ∷ []) $ done !
 

@@ -30,8 +30,8 @@ same-length-3 c = search needs
 returns : tie.Need-returns
 returns c = λ ys l q. offers-nothing ys (c .no-due .ensures) (unfit-ours (c .before .before .before .before .before .before .before .before .before .before .before .before .before .args .mempool .pass .open) (c .before .unfit .ensures)) (unfit _ _ _ _ _ ys (c .before .before .before .fits-lent .ensures) (c .before .before .if1 .taken) l)
 
-held-back-requires : tie.Need-held-back-requires
-held-back-requires c κs = search needs
+standing-for-requires : tie.Need-standing-for-requires
+standing-for-requires c κs = search needs
 
 check-requires : tie.Need-check-requires
 check-requires c κs = ready _ _ _ _ _ (c .before .before .before .before .before .fits-lent .ensures) (c .before .before .before .before .if1 .left) .tests
@@ -49,7 +49,7 @@ same-length-6 : tie.Need-same-length-6
 same-length-6 c = search needs
 
 returns-2 : tie.Need-returns-2
-returns-2 c = λ ys l q. offers _ _ _ _ _ _ (claims-as (stopped _ _ _ _ _ _ _ (placed ys (c .before .before .before .before .before .before .before .before .before .before .before .before .before .before .before .before .before .before .args .sub) (fitted _ _ _ _ _ ys (c .before .before .before .before .before .before .before .before .fits-lent .ensures) (c .before .before .before .before .before .before .before .if1 .left) l) l (c .before .before .before .before .before .before .held-back .ensures) q) (c .before .before .check .ensures) (c .before .if2 .taken)) (claims-refused _ _ _ _ _ _ (fitted _ _ _ _ _ ys (c .before .before .before .before .before .before .before .before .fits-lent .ensures) (c .before .before .before .before .before .before .before .if1 .left) l) _ (c .no-due2 .ensures)))
+returns-2 c = λ ys l q. offers _ _ _ _ _ _ (claims-as (stopped _ _ _ _ _ _ _ (placed ys (c .before .before .before .before .before .before .before .before .before .before .before .before .before .before .before .before .before .before .args .sub) (fitted _ _ _ _ _ ys (c .before .before .before .before .before .before .before .before .fits-lent .ensures) (c .before .before .before .before .before .before .before .if1 .left) l) l (c .before .before .before .before .before .before .standing-for .ensures) q) (c .before .before .check .ensures) (c .before .if2 .taken)) (claims-refused _ _ _ _ _ _ (fitted _ _ _ _ _ ys (c .before .before .before .before .before .before .before .before .fits-lent .ensures) (c .before .before .before .before .before .before .before .if1 .left) l) _ (c .no-due2 .ensures)))
 
 judge-requires : tie.Need-judge-requires
 judge-requires c κs = (ready _ _ _ _ _ (c .before .before .before .before .before .before .before .before .before .before .before .fits-lent .ensures) (c .before .before .before .before .before .before .before .before .before .before .if1 .left), passed _ _ _ _ _ _ _ _ _ _ (sym (c .before .before .before .before .before .check .ensures) ∙ c .before .before .before .before .if2 .left))
@@ -67,7 +67,7 @@ same-length-10 : tie.Need-same-length-10
 same-length-10 c = search needs
 
 returns-3 : tie.Need-returns-3
-returns-3 c = λ ys l q. offers _ _ _ _ _ _ (claims-as (goes-on _ _ _ _ _ _ _ (placed ys (c .before .before .before .before .before .before .before .before .before .before .before .before .before .before .before .before .before .before .before .before .before .before .before .before .before .before .before .before .before .before .args .sub) (fitted _ _ _ _ _ ys (c .before .before .before .before .before .before .before .before .before .before .before .before .before .before .before .before .before .before .before .before .fits-lent .ensures) (c .before .before .before .before .before .before .before .before .before .before .before .before .before .before .before .before .before .before .before .if1 .left) l) l (c .before .before .before .before .before .before .before .before .before .before .before .before .before .before .before .before .before .before .held-back .ensures) q) (c .before .before .before .before .before .before .before .before .before .before .before .before .before .before .check .ensures) (c .before .before .before .before .before .before .before .before .before .before .before .before .before .if2 .left)) (c .before .before .before .before .before .before .before .before .judge .ensures ys (fitted _ _ _ _ _ ys (c .before .before .before .before .before .before .before .before .before .before .before .before .before .before .before .before .before .before .before .before .fits-lent .ensures) (c .before .before .before .before .before .before .before .before .before .before .before .before .before .before .before .before .before .before .before .if1 .left) l) (placed ys (c .before .before .before .before .before .before .before .before .before .before .before .before .before .before .before .before .before .before .before .before .before .before .before .before .before .before .before .before .before .before .args .sub) (fitted _ _ _ _ _ ys (c .before .before .before .before .before .before .before .before .before .before .before .before .before .before .before .before .before .before .before .before .fits-lent .ensures) (c .before .before .before .before .before .before .before .before .before .before .before .before .before .before .before .before .before .before .before .if1 .left) l) l (c .before .before .before .before .before .before .before .before .before .before .before .before .before .before .before .before .before .before .held-back .ensures) q)))
+returns-3 c = λ ys l q. offers _ _ _ _ _ _ (claims-as (goes-on _ _ _ _ _ _ _ (placed ys (c .before .before .before .before .before .before .before .before .before .before .before .before .before .before .before .before .before .before .before .before .before .before .before .before .before .before .before .before .before .before .args .sub) (fitted _ _ _ _ _ ys (c .before .before .before .before .before .before .before .before .before .before .before .before .before .before .before .before .before .before .before .before .fits-lent .ensures) (c .before .before .before .before .before .before .before .before .before .before .before .before .before .before .before .before .before .before .before .if1 .left) l) l (c .before .before .before .before .before .before .before .before .before .before .before .before .before .before .before .before .before .before .standing-for .ensures) q) (c .before .before .before .before .before .before .before .before .before .before .before .before .before .before .check .ensures) (c .before .before .before .before .before .before .before .before .before .before .before .before .before .if2 .left)) (c .before .before .before .before .before .before .before .before .judge .ensures ys (fitted _ _ _ _ _ ys (c .before .before .before .before .before .before .before .before .before .before .before .before .before .before .before .before .before .before .before .before .fits-lent .ensures) (c .before .before .before .before .before .before .before .before .before .before .before .before .before .before .before .before .before .before .before .if1 .left) l) (placed ys (c .before .before .before .before .before .before .before .before .before .before .before .before .before .before .before .before .before .before .before .before .before .before .before .before .before .before .before .before .before .before .args .sub) (fitted _ _ _ _ _ ys (c .before .before .before .before .before .before .before .before .before .before .before .before .before .before .before .before .before .before .before .before .fits-lent .ensures) (c .before .before .before .before .before .before .before .before .before .before .before .before .before .before .before .before .before .before .before .if1 .left) l) l (c .before .before .before .before .before .before .before .before .before .before .before .before .before .before .before .before .before .before .standing-for .ensures) q)))
 
 pub submit-spec : {M : Type 1} → statement M
 submit-spec =
@@ -80,7 +80,7 @@ submit-spec =
     same-length-2
     same-length-3
     returns
-    held-back-requires
+    standing-for-requires
     check-requires
     no-due-requires-2
     same-length-4
