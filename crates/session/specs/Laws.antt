@@ -28,7 +28,7 @@ use Rattle.boxes.specs.Records.{index, conflicts}
 use Rattle.arguments.specs.Arguments.{feeOf}
 use Rattle.checks.specs.Checks.{refusalOf}
 use Rattle.admit.specs.Admit.{Admitted, settled, seated, contested, admitSpec, crowded, loses, joined, newcomer, baseOf}
-use Rattle.store.specs.World.{World, Result, unchanged}
+use Rattle.store.specs.World.{World, worldOf, Result, unchanged}
 use Rattle.process.specs.Process.{Limits, standingOf, judged, processed}
 use Rattle.entries.specs.Layout.{entriesRoom}
 use Rattle.boxes.specs.Layout.{boxesRoom}
@@ -39,14 +39,19 @@ use Rattle.stats.specs.declared.FeeStats.{FeeStats}
 use Rattle.store.specs.Fits.{Fits, goes-on, un-not}
 use Rattle.process.specs.Post.{Post, resultOf}
 use Rattle.process.specs.declared.Processed.{Processed}
+use Rattle.returns.specs.Returns.{invalidated}
+use Rattle.returns.specs.Post.{Meets}
 use Rattle.mempool.specs.Start.{Sizes, sizes, within, sized, settled as settles, empty, started}
 use Rattle.words.specs.Ids.{idOf}
+use Rattle.words.specs.declared.ids.Id.{Id}
 use Rattle.lines.specs.declared.read.PoolForm.{PoolForm}
 use Rattle.lines.specs.declared.read.TxForm.{TxForm}
 use Rattle.session.specs.declared.calls.Call.{Call}
-use Rattle.session.specs.declared.calls.Call.the-variants.{Start, Submit, Ask, NotThere}
+use Rattle.session.specs.declared.calls.Call.the-variants.{Start, Alter, Ask, NotThere}
+use Rattle.session.specs.declared.calls.Change.{Change}
+use Rattle.session.specs.declared.calls.Change.the-variants.{Submit, Invalidate}
 use Rattle.session.specs.declared.calls.Query.{Query}
-use Rattle.session.specs.Session.{Line, wReady, wNoPool, refusedText, unreadText, txText, writtenIn, configOf, noConfig, nothing, submissionOf, processedLine, startedLine, same, asked, lineOf}
+use Rattle.session.specs.Session.{Line, wReady, wNoPool, refusedText, unreadText, wInvalidated, txText, doneText, writtenIn, configOf, noConfig, nothing, submissionOf, processedLine, doneLine, altered, startedLine, same, asked, lineOf}
 use Rattle.session.specs.Texts.{prints-as}
 use Rattle.session.specs.After.{Holds, After, ToldOf}
 use Rattle.session.specs.declared.Kept.{Kept}
@@ -187,6 +192,36 @@ pub after-cut : (e b k p a e' b' k' p' a' o₀ o : List ℕ) (h : Kept) (t : Tol
     → After e' b' k' p' a' o₀ o t (processedLine e b k p a h (resultOf e b k p a (h .mempool) u (take i f) (take j s)) x)
 after-cut e b k p a e' b' k' p' a' o₀ o h t u f s x i j n m v w q = rw (← take-min i n f v, ← take-min j m s w) q
 
+-- ---- the line of a call that writes no ids
+
+pub after-done : (e b k p a e' b' k' p' o₀ o : List ℕ) (h : Kept) (r : Mempool) (n : Outcome) (s : Result) (head : List ℕ) (x len : ℕ) → Meets (h .mempool) r n e' b' k' p' s → Prints (doneText head n x) 0 o₀ o len
+    → After e' b' k' p' a o₀ o (record { kept = record { ready = true; mempool = r; stats = h .stats; written = 0 }; len = len }) (doneLine e b k p a h head s x)
+unfolding doneLine
+after-done e b k p a e' b' k' p' o₀ o h r n s head x len d t =
+    record {
+      holds = record { fits = d .fits; written = omega arith };
+      prints = prints-as (ap (λ (z : Outcome). doneText head z x) (d .outcome)) t;
+      ready = refl;
+      config = d .config;
+      pass = d .pass;
+      world = d .world;
+      stats = refl;
+      written = of-none (ids 4) a;
+    }
+
+-- ---- a changing call's line, call by call
+
+module _ (e b k p a : List ℕ) (h : Kept) (f s : List ℕ) (g : Change) where
+  pub alter-submitted : (t : TxForm) → g ≡ Submit t
+      → altered e b k p a h f s g ≡ processedLine e b k p a h (resultOf e b k p a (h .mempool) (submissionOf t) (take (t .inputs) f) (take (t .outputs) s)) (idOf (t .id))
+  unfolding altered
+  alter-submitted t q = rw q
+
+  pub alter-invalidated : (time : ℕ) (x : Id) → g ≡ Invalidate time x
+      → altered e b k p a h f s g ≡ doneLine e b k p a h wInvalidated (invalidated (h .mempool) (worldOf e b k p (h .mempool)) time (idOf x)) (idOf x)
+  unfolding altered
+  alter-invalidated time x q = rw q
+
 -- ---- a start's line
 
 -- no count is too large for no words
@@ -288,12 +323,11 @@ module _ (e b k p a : List ℕ) (h : Kept) (n room : ℕ) (f s : List ℕ) (call
   unfolding lineOf
   line-started g q = rw q
 
-  pub line-submitted : (t : TxForm) → call ≡ Submit t → h .ready ≡ true
-      → lineOf e b k p a h n room f s call ≡ processedLine e b k p a h (resultOf e b k p a (h .mempool) (submissionOf t) (take (t .inputs) f) (take (t .outputs) s)) (idOf (t .id))
+  pub line-altered : (t : Change) → call ≡ Alter t → h .ready ≡ true → lineOf e b k p a h n room f s call ≡ altered e b k p a h f s t
   unfolding lineOf
-  line-submitted t q z = rw q (met _ _ _ z)
+  line-altered t q z = rw q (met _ _ _ z)
 
-  pub line-unready : (t : TxForm) → call ≡ Submit t → h .ready ≡ false → lineOf e b k p a h n room f s call ≡ same e b k p a h wNoPool
+  pub line-unready : (t : Change) → call ≡ Alter t → h .ready ≡ false → lineOf e b k p a h n room f s call ≡ same e b k p a h wNoPool
   unfolding lineOf
   line-unready t q z = rw q (unmet _ _ _ z)
 

@@ -30,6 +30,7 @@ use Rattle.stats.specs.Stats.{fresh}
 use Rattle.stats.specs.declared.FeeStats.{FeeStats}
 use Rattle.store.specs.World.{World, worldOf, Result}
 use Rattle.process.specs.Post.{resultOf}
+use Rattle.returns.specs.Returns.{invalidated}
 use Rattle.mempool.specs.Start.{sizes, empty, started}
 use Rattle.mempool.specs.Listing.{Row, Listing, topOf}
 use Rattle.mempool.specs.Queries.{containsOf, spendingOf}
@@ -39,7 +40,9 @@ use Rattle.lines.specs.declared.fields.Verdict as read
 use Rattle.lines.specs.declared.read.PoolForm.{PoolForm}
 use Rattle.lines.specs.declared.read.TxForm.{TxForm}
 use Rattle.session.specs.declared.calls.Call.{Call}
-use Rattle.session.specs.declared.calls.Call.the-variants.{Start, Submit, Ask, NotThere}
+use Rattle.session.specs.declared.calls.Call.the-variants.{Start, Alter, Ask, NotThere}
+use Rattle.session.specs.declared.calls.Change.{Change}
+use Rattle.session.specs.declared.calls.Change.the-variants.{Submit, Invalidate}
 use Rattle.session.specs.declared.calls.Query.{Query}
 use Rattle.session.specs.declared.calls.Query.the-variants.{Listing as Lists, Len, Contains, Spending, Charges, Written}
 use Rattle.replies.specs.Replies.{numbered, named, listed, replacedText, pooledText, rowOf, spenderText, chargesText}
@@ -66,7 +69,7 @@ wNo = 40 ∷ 110 ∷ 111 ∷ 41 ∷ []
 abbrev pub wNone : List ℕ
 wNone = 40 ∷ 110 ∷ 111 ∷ 110 ∷ 101 ∷ 41 ∷ []
 
--- `(refused `, `(unread `, `(len `, `(accepted `, `(ids`
+-- `(refused `, `(unread `, `(len `, `(accepted `, `(invalidated `, `(ids`
 abbrev pub wRefused : List ℕ
 wRefused = 40 ∷ 114 ∷ 101 ∷ 102 ∷ 117 ∷ 115 ∷ 101 ∷ 100 ∷ 32 ∷ []
 
@@ -78,6 +81,9 @@ wLen = 40 ∷ 108 ∷ 101 ∷ 110 ∷ 32 ∷ []
 
 abbrev pub wAccepted : List ℕ
 wAccepted = 40 ∷ 97 ∷ 99 ∷ 99 ∷ 101 ∷ 112 ∷ 116 ∷ 101 ∷ 100 ∷ 32 ∷ []
+
+abbrev pub wInvalidated : List ℕ
+wInvalidated = 40 ∷ 105 ∷ 110 ∷ 118 ∷ 97 ∷ 108 ∷ 105 ∷ 100 ∷ 97 ∷ 116 ∷ 101 ∷ 100 ∷ 32 ∷ []
 
 abbrev pub wIds : List ℕ
 wIds = 40 ∷ 105 ∷ 100 ∷ 115 ∷ []
@@ -120,6 +126,22 @@ writtenIn (number n) = 0
 writtenIn (said b) = 0
 writtenIn (entry k w b) = 0
 writtenIn none = 0
+
+-- a call that writes no ids and answers with the id x, behind its own head
+unfoldable pub doneText : List ℕ → Outcome → ℕ → List ℕ
+doneText head done x = named head x
+doneText head (refused n k) x = refusedText n
+doneText head (wrote k) x = []
+doneText head needed x = []
+doneText head (candidate k) x = []
+doneText head (ended n) x = []
+doneText head (missing k) x = []
+doneText head (invalid k) x = []
+doneText head (valid k) x = []
+doneText head (number n) x = []
+doneText head (said b) x = []
+doneText head (entry k w b) x = []
+doneText head none x = []
 
 -- a query's answer
 abbrev yesNo : Bool → List ℕ
@@ -282,6 +304,24 @@ module _ (e b k p a : List ℕ) (h : Kept) where
         written = take (countOf 4 a) (s .written);
       }
 
+  -- what a call is to come to that writes no ids and leaves the statistics
+  unfoldable pub doneLine : List ℕ → Result → ℕ → Line
+  doneLine head s x =
+      record {
+        text = doneText head (s .outcome) x;
+        ready = true;
+        config = h .mempool .config;
+        pass = h .mempool .pass;
+        world = s .world;
+        stats = h .stats;
+        written = [];
+      }
+
+  -- a changing call, of a pool that is there; f and s are the words of the form's lists, as far as its numbers of words go
+  unfoldable pub altered : List ℕ → List ℕ → Change → Line
+  altered f s (Submit t) = processedLine (resultOf e b k p a (h .mempool) (submissionOf t) (take (t .inputs) f) (take (t .outputs) s)) (idOf (t .id))
+  altered f s (Invalidate time x) = doneLine wInvalidated (invalidated (h .mempool) (worldOf e b k p (h .mempool)) time (idOf x)) (idOf x)
+
   -- a query's text; `room`: the words of the buffer that lists go to
   unfoldable pub asked : ℕ → Query → List ℕ
   asked room (Lists limit) = listingText (topOf e (h .mempool) room limit)
@@ -291,11 +331,9 @@ module _ (e b k p a : List ℕ) (h : Kept) where
   asked room Charges = chargesText (h .mempool .sums .«interblock_cost») (flatPeers p (h .mempool .sums .peers))
   asked room Written = listed wIds (idsTo 4 a (h .written))
 
-  -- "Before the first `(ready)` any form but `pool` prints `(no pool)`"; an unreadable line is unreadable then too. n is the line's number; f and s are
-  -- the words of the form's lists, as far as its numbers of words go.
+  -- "Before the first `(ready)` any form but `pool` prints `(no pool)`"; an unreadable line is unreadable then too. n is the line's number.
   unfoldable pub lineOf : ℕ → ℕ → List ℕ → List ℕ → Call → Line
   lineOf n room f s (Start g) = startedLine (started (sizes (entriesRoom e) (boxesRoom b) (cacheRoom k) (length p / 2)) (configOf g))
-  lineOf n room f s (Submit t) =
-      pick (h .ready) (processedLine (resultOf e b k p a (h .mempool) (submissionOf t) (take (t .inputs) f) (take (t .outputs) s)) (idOf (t .id))) (same wNoPool)
+  lineOf n room f s (Alter g) = pick (h .ready) (altered f s g) (same wNoPool)
   lineOf n room f s (Ask q) = same (pick (h .ready) (asked room q) wNoPool)
   lineOf n room f s NotThere = same (unreadText n)

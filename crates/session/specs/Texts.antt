@@ -20,9 +20,11 @@ use Rattle.types.specs.declared.EntryOutcome.{EntryOutcome}
 use Rattle.types.specs.declared.EntryOutcome.the-variants.{Entry, NoEntry, NotLooked}
 use Rattle.types.specs.declared.ListOutcome.{ListOutcome}
 use Rattle.types.specs.declared.ListOutcome.the-variants.{Listed, NotListed}
+use Rattle.types.specs.declared.InvalidateOutcome.{InvalidateOutcome}
+use Rattle.types.specs.declared.InvalidateOutcome.the-variants.{Invalidated, NotInvalidated}
 use Rattle.types.specs.declared.ProcessingOutcome.{ProcessingOutcome}
 use Rattle.types.specs.declared.ProcessingOutcome.the-variants.{Accepted, Replaced, DoubleSpendLoser, VerdictNeeded, Declined}
-use Rattle.types.specs.Outcomes.{Outcome, refused, wrote, testedOf, lookedOf, listedOf, processedOf}
+use Rattle.types.specs.Outcomes.{Outcome, refused, wrote, testedOf, lookedOf, listedOf, processedOf, invalidatedOf}
 use Rattle.forms.specs.Nums.{Prints}
 use Rattle.entries.specs.Layout.{entriesOf, entriesRoom, entries}
 use Rattle.stats.specs.Stats.{fresh}
@@ -32,7 +34,7 @@ use Rattle.mempool.specs.Listing.{Row, brief, Listing, listing, rowsOf, topOf, 
 use Rattle.lines.specs.declared.read.PoolForm.{PoolForm}
 use Rattle.lines.specs.declared.read.TxForm.{TxForm}
 use Rattle.replies.specs.Replies.{named, replacedText, pooledText, rowOf, spenderText}
-use Rattle.session.specs.Session.{wYes, wNo, wNone, wNeeded, wAccepted, refusedText, queryText, listingText, txText, strategyOf, configOf, sourceOf, verdictOf, submissionOf, noConfig, nothing}
+use Rattle.session.specs.Session.{wYes, wNo, wNone, wNeeded, wAccepted, refusedText, queryText, listingText, txText, wInvalidated, doneText, strategyOf, configOf, sourceOf, verdictOf, submissionOf, noConfig, nothing}
 
 pub prints-as : {t u o₀ o : List ℕ} {n : ℕ} → t ≡ u → Prints t 0 o₀ o n → Prints u 0 o₀ o n
 prints-as {t} {u} {o₀} {o} {n} e p = subst (λ (x : List ℕ). Prints x 0 o₀ o n) e p
@@ -83,6 +85,15 @@ module _ (o : ProcessingOutcome) (x : ℕ) (ks : List ℕ) where
   pub told-declined : {n : ℕ} → o ≡ Declined n → refusedText n ≡ txText (processedOf o) x ks
   unfolding processedOf txText
   told-declined p = rw p
+
+module _ (o : InvalidateOutcome) (x : ℕ) where
+  pub told-invalidated : o ≡ Invalidated → named wInvalidated x ≡ doneText wInvalidated (invalidatedOf o) x
+  unfolding invalidatedOf doneText
+  told-invalidated p = rw p
+
+  pub told-not-invalidated : {n : ℕ} → o ≡ NotInvalidated n → refusedText n ≡ doneText wInvalidated (invalidatedOf o) x
+  unfolding invalidatedOf doneText
+  told-not-invalidated p = rw p
 
 -- ---- a listing
 

@@ -19,9 +19,16 @@ pub enum Query {
     Written,
 }
 
+// What changes the pool.
+pub enum Change {
+    Submit(TxForm),
+    // time, id
+    Invalidate(u64, Id),
+}
+
 pub enum Call {
     Start(PoolForm),
-    Submit(TxForm),
+    Alter(Change),
     Ask(Query),
     // no form, or one whose call is not there yet
     NotThere,
@@ -32,7 +39,8 @@ pub fn call_of(form: Form) -> Call
 {
     match form {
         Form::Pool(p) => Call::Start(p),
-        Form::Tx(t) => Call::Submit(t),
+        Form::Tx(t) => Call::Alter(Change::Submit(t)),
+        Form::Invalidate(time, id) => Call::Alter(Change::Invalidate(time, id)),
         Form::List => Call::Ask(Query::Listing(u64::MAX)),
         Form::Top(limit) => Call::Ask(Query::Listing(limit)),
         Form::Len => Call::Ask(Query::Len),
@@ -42,7 +50,6 @@ pub fn call_of(form: Form) -> Call
         Form::Written => Call::Ask(Query::Written),
         Form::Return(_) => Call::NotThere,
         Form::Block(_) => Call::NotThere,
-        Form::Invalidate(_, _) => Call::NotThere,
         Form::Open(_, _, _) => Call::NotThere,
         Form::Next => Call::NotThere,
         Form::Answer(_, _) => Call::NotThere,

@@ -1,6 +1,8 @@
 // What poolrun does with a line that was read: makes the call and prints the answer into `out`. All memory is lent.
 pub mod answer;
 pub mod calls;
+pub mod change;
+pub mod invalidation;
 pub mod query;
 pub mod start;
 pub mod submit;
@@ -8,9 +10,9 @@ pub mod submit;
 use crate::answer::no_pool;
 use crate::answer::unread;
 use crate::calls::Call;
+use crate::change::change;
 use crate::query::ask;
 use crate::start::on_pool;
-use crate::submit::on_tx;
 use stats::FeeStats;
 use types::Mempool;
 ghost use Prim.Native.Nat.{_≤_};
@@ -66,14 +68,14 @@ pub fn tell(
             p,
             out,
         ),
-        Call::Submit(t) => {
+        Call::Alter(g) => {
             if !kept.ready {
                 return Told {
                     kept,
                     len: no_pool(out),
                 };
             }
-            on_tx(
+            change(
                 entries,
                 boxes,
                 cache,
@@ -82,7 +84,7 @@ pub fn tell(
                 first,
                 second,
                 kept,
-                t,
+                g,
                 out,
             )
         }

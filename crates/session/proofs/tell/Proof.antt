@@ -1,6 +1,6 @@
 use Rattle.session.specs.After.{after-same}
 use borrow.Author.Tests.{not-true, not-false}
-use Rattle.session.specs.Laws.{after-as, line-unready, line-unasked, line-asked, line-unread, line-started, line-submitted}
+use Rattle.session.specs.Laws.{after-as, line-unready, line-unasked, line-asked, line-unread, line-started, line-altered}
 use borrow.Author.Needs.{needs}
 use Rattle.session.proofs.tell.Statement.{statement}
 use Rattle.session.proofs.tell.Tie as tie
@@ -10,7 +10,7 @@ use Rattle.session.proofs.answer.no_pool.Reads as no-pool-reads
 use Rattle.session.proofs.answer.unread.Reads as unread-reads
 use Rattle.session.proofs.query.ask.Reads as ask-reads
 use Rattle.session.proofs.start.on_pool.Reads as on-pool-reads
-use Rattle.session.proofs.submit.on_tx.Reads as on-tx-reads
+use Rattle.session.proofs.change.change.Reads as change-reads
 
 -- src/lib.rt:59:21
 enum-known-call : tie.Need-enum-known-call
@@ -37,8 +37,8 @@ returns : tie.Need-returns
 returns c = after-as (line-unready _ _ _ _ _ _ _ _ _ _ _ _ (c .before .before .before .before .before .before .before .call2 .given .1) (not-true _ (c .before .before .before .before .if1 .taken))) (after-same _ _ _ _ _ _ _ _ _ _ (c .before .before .before .before .before .before .before .before .before .before .before .before .before .before .before .before .before .before .pre .0) (c .before .before .no-pool .ensures))
 
 -- src/lib.rt:67:13
-on-tx-requires : tie.Need-on-tx-requires
-on-tx-requires c κs = (c .before .before .before .before .before .before .before .before .before .before .before .before .before .before .before .before .before .before .before .before .pre .0, (c .before .before .before .before .before .before .before .before .before .before .before .before .before .before .before .before .before .before .before .before .pre .1 .0 .0, c .before .before .before .before .before .before .before .before .before .before .before .before .before .before .before .before .before .before .before .before .pre .1 .1))
+change-requires : tie.Need-change-requires
+change-requires c κs = (c .before .before .before .before .before .before .before .before .before .before .before .before .before .before .before .before .before .before .before .before .pre .0, (c .before .before .before .before .before .before .before .before .before .before .before .before .before .before .before .before .before .before .before .before .pre .1 .0 .0, c .before .before .before .before .before .before .before .before .before .before .before .before .before .before .before .before .before .before .before .before .pre .1 .1))
 
 -- src/lib.rt:69:19
 enum-known-call-3 : tie.Need-enum-known-call-3
@@ -122,7 +122,7 @@ same-length-14 c = search needs
 
 -- src/lib.rt:38:1
 returns-4 : tie.Need-returns-4
-returns-4 c = after-as (line-submitted _ _ _ _ _ _ _ _ _ _ _ _ (c .before .before .before .before .before .before .before .before .before .before .before .before .before .before .before .before .before .before .before .before .before .before .call2 .given .1) (not-false _ (c .before .before .before .before .before .before .before .before .before .before .before .before .before .before .before .before .before .before .before .if1 .left))) (c .before .before .before .before .before .before .before .before .before .before .before .before .on-tx .ensures)
+returns-4 c = after-as (line-altered _ _ _ _ _ _ _ _ _ _ _ _ (c .before .before .before .before .before .before .before .before .before .before .before .before .before .before .before .before .before .before .before .before .before .before .call2 .given .1) (not-false _ (c .before .before .before .before .before .before .before .before .before .before .before .before .before .before .before .before .before .before .before .if1 .left))) (c .before .before .before .before .before .before .before .before .before .before .before .before .change .ensures)
 
 -- src/lib.rt:38:1
 same-length-15 : tie.Need-same-length-15
@@ -174,7 +174,7 @@ tell-spec =
     no-pool-requires
     same-length
     returns
-    on-tx-requires
+    change-requires
     enum-known-call-3
     no-pool-requires-2
     same-length-2
