@@ -1,6 +1,6 @@
 -- `layout::source_of` meets its contract: the test decides. Assumes nothing.
 use borrow.Author.Tests.{eq-eqb, ne-eqb}
-use Rattle.checks.specs.Laws.{yes, no}
+use Rattle.words.specs.Lists.{yes, no}
 use mathlib.Core.Path.{sym}
 use Rattle.host.proofs.layout.source_of.Statement.{statement}
 use Rattle.host.proofs.layout.source_of.Tie as tie

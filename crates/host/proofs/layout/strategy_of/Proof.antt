@@ -2,7 +2,7 @@
 use native.Mathlib.Omega.{arith}
 use mathlib.Core.Path.{_≡_, sym}
 use borrow.Author.Tests.{eq-eqb, ne-eqb}
-use Rattle.checks.specs.Laws.{yes, no}
+use Rattle.words.specs.Lists.{yes, no}
 use Rattle.host.proofs.layout.strategy_of.Statement.{statement}
 use Rattle.host.proofs.layout.strategy_of.Tie as tie
 

@@ -1,6 +1,6 @@
 -- `layout::verdict_of` meets its contract, test by test. Assumes nothing.
 use borrow.Author.Tests.{eq-eqb, ne-eqb}
-use Rattle.checks.specs.Laws.{yes, no}
+use Rattle.words.specs.Lists.{yes, no}
 use mathlib.Core.Path.{sym, _∙_}
 use Rattle.host.proofs.layout.verdict_of.Statement.{statement}
 use Rattle.host.proofs.layout.verdict_of.Tie as tie
