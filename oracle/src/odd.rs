@@ -20,7 +20,32 @@ pub fn lines() -> Vec<Vec<u8>> {
     ids(&mut all);
     brackets(&mut all);
     lengths(&mut all);
+    edges(&mut all);
+    full(&mut all);
     all
+}
+
+/// Document 01's edges that are checked by running: a peer limit of 0 and a peer without a record; capacity 0 and an empty pool.
+fn edges(all: &mut Vec<Vec<u8>>) {
+    all.push(b"(pool 5 0 byte 10 3 100 10 12000000 0)".to_vec());
+    all.push(b"(tx 1 e1 7 100 50 ((1 set)) ((f1 500 fee 50)) (ok 9))".to_vec());
+    all.push(b"(tx 2 e2 7 100 50 ((2 set)) ((f2 500 fee 50)) (ok 9))".to_vec());
+    all.push(b"(charges)".to_vec());
+    all.push(b"(pool 0 0 byte 10 3 100 10 12000000 10000000)".to_vec());
+    all.push(b"(tx 1 e1 local 100 50 ((1 set)) ((f1 500 fee 50)) (ok 9))".to_vec());
+    all.push(b"(list)".to_vec());
+}
+
+/// All box records used: the ninth of these transactions finds none (27), and the tenth, which asks for as many as are left, does.
+fn full(all: &mut Vec<Vec<u8>>) {
+    all.push(b"(pool 100 0 byte 10 3 100 10 12000000 10000000)".to_vec());
+    let outputs = |tx: usize, n: usize| (0..n).map(|i| format!("({tx:x}{i:03x} 9 pay 1)")).collect::<Vec<_>>().join(" ");
+    for tx in 1..=8 {
+        all.push(format!("(tx 1 {tx:x}0 local 100 50 ((aa{tx:x} set)) ({} (fee{tx:x} 900 fee 1)) (ok 9))", outputs(tx, 125)).into_bytes());
+    }
+    all.push(format!("(tx 1 90 local 100 50 ((aa9 set)) ({} (fee9 900 fee 1)) (ok 9))", outputs(9, 7)).into_bytes());
+    all.push(format!("(tx 1 90 local 100 50 ((aa9 set)) ({} (fee9 900 fee 1)) (ok 9))", outputs(9, 6)).into_bytes());
+    all.push(b"(len)".to_vec());
 }
 
 /// A space put in at every place, one taken away at every place that has one, and two for one.
