@@ -10,14 +10,14 @@ use lib.ListN.{length}
 use borrow.Author.Tests.{lt-ltb, le-ltb, ne-eqb}
 use Rattle.words.specs.Lists.{pick, keep}
 use Rattle.words.specs.Find.{without}
-use Rattle.types.specs.Outcomes.{processedOf, refused, done, wrote}
+use Rattle.pool_types.specs.Outcomes.{processedOf, refused, done, wrote}
 use Rattle.words.specs.Tables.{of-none}
 use Rattle.words.specs.Sums.{cap}
-use Rattle.types.specs.declared.Counts.{Counts}
-use Rattle.types.specs.declared.MempoolConfig.{MempoolConfig}
-use Rattle.types.specs.declared.Submission.{Submission}
-use Rattle.types.specs.declared.ProcessingOutcome.{ProcessingOutcome}
-use Rattle.types.specs.declared.ProcessingOutcome.the-variants.{Declined, DoubleSpendLoser}
+use Rattle.pool_types.specs.declared.Counts.{Counts}
+use Rattle.pool_types.specs.declared.MempoolConfig.{MempoolConfig}
+use Rattle.pool_types.specs.declared.Submission.{Submission}
+use Rattle.pool_types.specs.declared.ProcessingOutcome.{ProcessingOutcome}
+use Rattle.pool_types.specs.declared.ProcessingOutcome.the-variants.{Declined, DoubleSpendLoser}
 use Rattle.weight.specs.Weight.{feePerFactor}
 use Rattle.arguments.specs.Arguments.{feeOf, feeSum}
 use Rattle.arguments.specs.declared.FeeSum.the-variants.{Sum, Beyond}

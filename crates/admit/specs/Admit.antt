@@ -10,13 +10,13 @@ use Rattle.words.specs.Lists.{pick}
 use Rattle.words.specs.Find.{found, last}
 use Rattle.words.specs.Sums.{cap, capped, quotientOf}
 use Rattle.words.specs.Ids.{idOf}
-use Rattle.types.specs.declared.MempoolConfig.{MempoolConfig}
-use Rattle.types.specs.declared.Submission.{Submission}
-use Rattle.types.specs.declared.Source.{Source}
-use Rattle.types.specs.declared.Source.the-variants.{Local, Peer}
-use Rattle.types.specs.declared.Verdict.the-variants.{Valid}
-use Rattle.types.specs.declared.FeeStrategy.the-variants.{FeePerByte}
-use Rattle.types.specs.Outcomes.{Outcome, refused, done, wrote}
+use Rattle.pool_types.specs.declared.MempoolConfig.{MempoolConfig}
+use Rattle.pool_types.specs.declared.Submission.{Submission}
+use Rattle.pool_types.specs.declared.Source.{Source}
+use Rattle.pool_types.specs.declared.Source.the-variants.{Local, Peer}
+use Rattle.pool_types.specs.declared.Verdict.the-variants.{Valid}
+use Rattle.pool_types.specs.declared.FeeStrategy.the-variants.{FeePerByte}
+use Rattle.pool_types.specs.Outcomes.{Outcome, refused, done, wrote}
 use Rattle.weight.specs.Weight.{feePerFactor}
 use Rattle.arguments.specs.Arguments.{records, feeOf, heightKey}
 use Rattle.entries.specs.Entries.{Entry}

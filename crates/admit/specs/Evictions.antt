@@ -11,7 +11,7 @@ use borrow.Author.Tests.{le-leb, lt-leb, eq-eqb, ne-eqb}
 use Rattle.words.specs.Lists.{pick}
 use Rattle.words.specs.Find.{last}
 use Rattle.words.specs.Sums.{cap}
-use Rattle.types.specs.declared.Counts.{Counts}
+use Rattle.pool_types.specs.declared.Counts.{Counts}
 use Rattle.entries.specs.Layout.{EntriesOk, entriesOf, entries}
 use Rattle.pool.specs.Pool.{Tables, tablesOf, PoolFits, Left, nobody, lowest, dropLow, evict, evicted}
 use Rattle.pool.specs.Laws.{evict-done, evicted-done, length-low, evict-more, evicted-more}

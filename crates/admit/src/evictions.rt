@@ -3,7 +3,7 @@ use answers::write_id;
 use pool::evict_lowest;
 use pool::lowest_id;
 use pool::lowest_weight;
-use types::Counts;
+use pool_types::Counts;
 use words::ids::Id;
 ghost use mathlib.Core.Path.{_≡_};
 ghost use mathlib.Core.List.{_∷_, []};

@@ -8,8 +8,8 @@ use lib.ListN.{length, take, drop}
 use Rattle.words.specs.Lists.{pick}
 use Rattle.words.specs.Find.{found}
 use Rattle.words.specs.Ids.{idAt}
-use Rattle.types.specs.declared.Mempool.{Mempool}
-use Rattle.types.specs.Outcomes.{refused, wrote}
+use Rattle.pool_types.specs.declared.Mempool.{Mempool}
+use Rattle.pool_types.specs.Outcomes.{refused, wrote}
 use Rattle.arguments.specs.Arguments.{whole, records, field, countsAgree}
 use Rattle.expiring_cache.specs.Cache.{prune}
 use Rattle.stats.specs.Stats.{confirmed}

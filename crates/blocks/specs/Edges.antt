@@ -5,9 +5,9 @@ use mathlib.Core.Bool.{Bool, true, false}
 use mathlib.Core.List.{List, [], _∷_}
 use Rattle.words.specs.Ids.{num, idAt}
 use Rattle.words.specs.declared.ids.Id.{Id}
-use Rattle.types.specs.declared.FeeStrategy.the-variants.{FeePerByte}
-use Rattle.types.specs.declared.Mempool.{Mempool}
-use Rattle.types.specs.Outcomes.{refused, wrote}
+use Rattle.pool_types.specs.declared.FeeStrategy.the-variants.{FeePerByte}
+use Rattle.pool_types.specs.declared.Mempool.{Mempool}
+use Rattle.pool_types.specs.Outcomes.{refused, wrote}
 use Rattle.arguments.specs.Arguments.{countsAgree}
 use Rattle.expiring_cache.specs.Cache.{Held}
 use Rattle.peers.specs.Peers.{peerOf}

@@ -5,9 +5,9 @@ use mathlib.Core.Bool.{Bool, true, false, not}
 use mathlib.Core.List.{List, [], _∷_}
 use lib.Dec.{ltb}
 use Rattle.words.specs.Lists.{pick}
-use Rattle.types.specs.declared.Mempool.{Mempool}
-use Rattle.types.specs.declared.BlockOutcome.the-variants.{Removed, NotApplied}
-use Rattle.types.specs.Outcomes.{Outcome, blockOf, refused, done, wrote, needed, candidate, ended, missing, invalid, valid, number, said, entry, none}
+use Rattle.pool_types.specs.declared.Mempool.{Mempool}
+use Rattle.pool_types.specs.declared.BlockOutcome.the-variants.{Removed, NotApplied}
+use Rattle.pool_types.specs.Outcomes.{Outcome, blockOf, refused, done, wrote, needed, candidate, ended, missing, invalid, valid, number, said, entry, none}
 use Rattle.boxes.specs.Among.{among}
 use Rattle.blocks.specs.Blocks.{readable, blockRefusal}
 

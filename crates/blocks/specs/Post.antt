@@ -7,9 +7,9 @@ use lib.ListN.{length}
 use borrow.Author.Tests.{eq-eqb, ne-eqb}
 use Rattle.words.specs.Lists.{pick, yes, no}
 use Rattle.words.specs.Tables.{of-none}
-use Rattle.types.specs.declared.Mempool.{Mempool}
-use Rattle.types.specs.declared.BlockOutcome.the-variants.{Removed, NotApplied}
-use Rattle.types.specs.Outcomes.{blockOf, refused}
+use Rattle.pool_types.specs.declared.Mempool.{Mempool}
+use Rattle.pool_types.specs.declared.BlockOutcome.the-variants.{Removed, NotApplied}
+use Rattle.pool_types.specs.Outcomes.{blockOf, refused}
 use Rattle.expiring_cache.specs.Layout.{room-still, Pruned}
 use Rattle.stats.specs.declared.FeeStats.{FeeStats}
 use Rattle.peers.specs.Flat.{flats}

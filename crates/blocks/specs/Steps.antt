@@ -14,7 +14,7 @@ use Rattle.words.specs.Find.{found, without}
 use Rattle.words.specs.Sums.{cap}
 use Rattle.words.specs.Ids.{idAt}
 use Rattle.words.specs.Tables.{drop-of}
-use Rattle.types.specs.declared.Counts.{Counts}
+use Rattle.pool_types.specs.declared.Counts.{Counts}
 use Rattle.arguments.specs.Arguments.{records, field, totalFrom, countsAgree}
 use Rattle.arguments.specs.Laws.{turn}
 use Rattle.stats.specs.Stats.{confirmed}

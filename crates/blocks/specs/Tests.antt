@@ -7,7 +7,7 @@ use native.Mathlib.Omega.{arith}
 use lib.Dec.{leb, ltb}
 use borrow.Author.Tests.{leb-true, le-leb, ltb-false, lt-ltb, le-ltb}
 use Rattle.words.specs.Lists.{pick}
-use Rattle.types.specs.declared.Mempool.{Mempool}
+use Rattle.pool_types.specs.declared.Mempool.{Mempool}
 use Rattle.arguments.specs.Arguments.{whole, countsAgree}
 use Rattle.expiring_cache.specs.Layout.{cacheRoom, ok-room, room-ok}
 use Rattle.pool.specs.Pool.{fitsTest}

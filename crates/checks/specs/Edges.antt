@@ -8,13 +8,13 @@ use lib.Dec.{ltb}
 use Rattle.words.specs.Lists.{pick, yes, no}
 use Rattle.words.specs.Ids.{idOf}
 use Rattle.words.specs.declared.ids.Id.{Id}
-use Rattle.types.specs.declared.FeeStrategy.the-variants.{FeePerByte}
-use Rattle.types.specs.declared.Mempool.{Mempool}
-use Rattle.types.specs.declared.Submission.{Submission}
-use Rattle.types.specs.declared.Source.{Source}
-use Rattle.types.specs.declared.Source.the-variants.{Local, Peer}
-use Rattle.types.specs.declared.Verdict.{Verdict}
-use Rattle.types.specs.declared.Verdict.the-variants.{Valid, Invalid, Absent}
+use Rattle.pool_types.specs.declared.FeeStrategy.the-variants.{FeePerByte}
+use Rattle.pool_types.specs.declared.Mempool.{Mempool}
+use Rattle.pool_types.specs.declared.Submission.{Submission}
+use Rattle.pool_types.specs.declared.Source.{Source}
+use Rattle.pool_types.specs.declared.Source.the-variants.{Local, Peer}
+use Rattle.pool_types.specs.declared.Verdict.{Verdict}
+use Rattle.pool_types.specs.declared.Verdict.the-variants.{Valid, Invalid, Absent}
 use Rattle.arguments.specs.Arguments.{records, feeOf, heightKey, aheadOf}
 use Rattle.expiring_cache.specs.Cache.{Held, held}
 use Rattle.entries.specs.Entries.{Entry, pooled}

@@ -9,10 +9,10 @@ use borrow.Author.Tests.{ltb-false, leb-false, eqb-true, eqb-false, not-false, l
 use Rattle.words.specs.Lists.{pick, yes, no}
 use Rattle.words.specs.Sums.{cap}
 use Rattle.words.specs.Ids.{idOf}
-use Rattle.types.specs.declared.Mempool.{Mempool}
-use Rattle.types.specs.declared.Submission.{Submission}
-use Rattle.types.specs.declared.Verdict.{Verdict}
-use Rattle.types.specs.declared.Verdict.the-variants.{Valid}
+use Rattle.pool_types.specs.declared.Mempool.{Mempool}
+use Rattle.pool_types.specs.declared.Submission.{Submission}
+use Rattle.pool_types.specs.declared.Verdict.{Verdict}
+use Rattle.pool_types.specs.declared.Verdict.the-variants.{Valid}
 use Rattle.arguments.specs.Arguments.{whole, records, feeOf, feeSum}
 use Rattle.arguments.specs.declared.FeeSum.the-variants.{Sum}
 use Rattle.expiring_cache.specs.Cache.{Held, held}

@@ -10,10 +10,10 @@ use lib.Dec.{eqb}
 use borrow.Author.Tests.{eqb-true}
 use Rattle.words.specs.Sums.{cap}
 use Rattle.words.specs.declared.ids.Id.{Id}
-use Rattle.types.specs.declared.FeeStrategy.the-variants.{FeePerByte, FeePerCycle}
-use Rattle.types.specs.declared.Submission.{Submission}
-use Rattle.types.specs.declared.Source.the-variants.{Local}
-use Rattle.types.specs.declared.Verdict.the-variants.{Absent}
+use Rattle.pool_types.specs.declared.FeeStrategy.the-variants.{FeePerByte, FeePerCycle}
+use Rattle.pool_types.specs.declared.Submission.{Submission}
+use Rattle.pool_types.specs.declared.Source.the-variants.{Local}
+use Rattle.pool_types.specs.declared.Verdict.the-variants.{Absent}
 use Rattle.weight.specs.Weight.{feePerFactor}
 use Rattle.arguments.specs.Arguments.{biased, aheadOf}
 use Rattle.expiring_cache.specs.Cache.{Held, held}

@@ -8,7 +8,7 @@ use lib.ListN.{length, set}
 use Rattle.words.specs.Tables.{of-suc, of-none, put-end}
 use Rattle.words.specs.Ids.{idOf}
 use Rattle.words.specs.declared.ids.Id.{Id}
-use Rattle.types.specs.declared.Counts.{Counts}
+use Rattle.pool_types.specs.declared.Counts.{Counts}
 use Rattle.entries.specs.Entries.{credit}
 use Rattle.entries.specs.Layout.{EntriesOk, entriesOf}
 use Rattle.entries.specs.Layout.{Left as Rows}

@@ -7,7 +7,7 @@ use crate::frames::store_frame;
 use entries::table::credit_entry;
 use indexes::inputs::Parent;
 use indexes::inputs::last_parent;
-use types::Counts;
+use pool_types::Counts;
 use words::ids::Id;
 ghost use Prim.Native.Nat.{_+_, _<_};
 ghost use Rattle.words.specs.Ids.{idOf};

@@ -9,7 +9,7 @@ use family::propagate_family_weight;
 use pool::fits;
 use pool::insert;
 use pool::room_for;
-use types::Counts;
+use pool_types::Counts;
 use words::ids::Id;
 
 fn id_of(n: u64) -> Id {

@@ -13,9 +13,9 @@ use Rattle.words.specs.Lists.{pick}
 use Rattle.words.specs.Sums.{quotientOf}
 use Rattle.words.specs.Rows.{recAt, blk-lit, recs-store}
 use Rattle.words.specs.Tables.{put-end, of-none, of-suc}
-use Rattle.types.specs.declared.Mempool.{Mempool}
-use Rattle.types.specs.Outcomes.{refused, number, wrote, listedOf}
-use Rattle.types.specs.declared.ListOutcome.the-variants.{Listed, NotListed}
+use Rattle.pool_types.specs.declared.Mempool.{Mempool}
+use Rattle.pool_types.specs.Outcomes.{refused, number, wrote, listedOf}
+use Rattle.pool_types.specs.declared.ListOutcome.the-variants.{Listed, NotListed}
 use Rattle.stats.specs.Stats.{feeForWait, waitFor}
 use Rattle.stats.specs.declared.FeeStats.{FeeStats}
 use Rattle.entries.specs.Entries.{Entry}

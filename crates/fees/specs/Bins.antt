@@ -5,8 +5,8 @@ use mathlib.Core.List.{List, [], _∷_}
 use lib.ListN.{length, getD, drop, set}
 use Rattle.words.specs.Rows.{recAt, recs, length-recs, getD-recs, take-recs}
 use Rattle.words.specs.Tables.{Table}
-use Rattle.types.specs.Outcomes.{listedOf}
-use Rattle.types.specs.declared.ListOutcome.{ListOutcome}
+use Rattle.pool_types.specs.Outcomes.{listedOf}
+use Rattle.pool_types.specs.declared.ListOutcome.{ListOutcome}
 use Rattle.fees.specs.Fees.{Bin, bin, Histogram}
 
 unfoldable pub binDec : List ℕ → Bin

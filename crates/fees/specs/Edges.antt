@@ -6,9 +6,9 @@ use mathlib.Core.List.{[], _∷_}
 use lib.ListN.{set, replicate}
 use Rattle.words.specs.Sums.{cap}
 use Rattle.words.specs.Tables.{of-none}
-use Rattle.types.specs.declared.Mempool.{Mempool}
-use Rattle.types.specs.declared.FeeStrategy.the-variants.{FeePerByte}
-use Rattle.types.specs.Outcomes.{refused, number, wrote}
+use Rattle.pool_types.specs.declared.Mempool.{Mempool}
+use Rattle.pool_types.specs.declared.FeeStrategy.the-variants.{FeePerByte}
+use Rattle.pool_types.specs.Outcomes.{refused, number, wrote}
 use Rattle.stats.specs.Stats.{firstFee, feeForWait}
 use Rattle.stats.specs.declared.FeeStats.{FeeStats}
 use Rattle.entries.specs.Entries.{Entry}

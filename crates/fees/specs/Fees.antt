@@ -7,8 +7,8 @@ use lib.Dec.{eqb, leb, ltb}
 use lib.ListN.{getD, set, replicate}
 use Rattle.words.specs.Lists.{pick}
 use Rattle.words.specs.Sums.{capped, quotientOf}
-use Rattle.types.specs.declared.Mempool.{Mempool}
-use Rattle.types.specs.Outcomes.{Outcome, refused, number, wrote}
+use Rattle.pool_types.specs.declared.Mempool.{Mempool}
+use Rattle.pool_types.specs.Outcomes.{Outcome, refused, number, wrote}
 use Rattle.stats.specs.Stats.{feeForWait, waitFor}
 use Rattle.stats.specs.declared.FeeStats.{FeeStats}
 use Rattle.stats.specs.declared.FeeForWait.{FeeForWait}

@@ -11,7 +11,7 @@ use lib.ListN.{length}
 use borrow.Author.Tests.{ne-eqb}
 use Rattle.words.specs.Lists.{pick}
 use Rattle.words.specs.Sums.{cap}
-use Rattle.types.specs.Outcomes.{Outcome, processedOf, refused, done, wrote, needed, candidate, ended, missing, invalid, valid, number, said, entry, none}
+use Rattle.pool_types.specs.Outcomes.{Outcome, processedOf, refused, done, wrote, needed, candidate, ended, missing, invalid, valid, number, said, entry, none}
 use Rattle.boxes.specs.Among.{among, among-cons}
 use Rattle.process.specs.Numbers.{refusals, ofSubmission}
 use Rattle.host.specs.Codes.{codeOf, writtenOf}

@@ -6,10 +6,10 @@ use mathlib.Core.Bool.{true, false}
 use mathlib.Core.List.{List}
 use native.Mathlib.Omega.{arith}
 use lib.ListN.{length, getD}
-use Rattle.types.specs.declared.Mempool.{Mempool}
-use Rattle.types.specs.declared.Submission.{Submission}
-use Rattle.types.specs.declared.ProcessingOutcome.{ProcessingOutcome}
-use Rattle.types.specs.Outcomes.{processedOf}
+use Rattle.pool_types.specs.declared.Mempool.{Mempool}
+use Rattle.pool_types.specs.declared.Submission.{Submission}
+use Rattle.pool_types.specs.declared.ProcessingOutcome.{ProcessingOutcome}
+use Rattle.pool_types.specs.Outcomes.{processedOf}
 use Rattle.process.specs.declared.Processed.{Processed}
 use Rattle.store.specs.Fits.{Fits}
 use Rattle.process.specs.Post.{Post, resultOf}

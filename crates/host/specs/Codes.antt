@@ -1,7 +1,7 @@
 -- What a call answers the C side: one number.
 use Prim.Native.Nat.{ℕ}
 use mathlib.Core.Path.{_≡_, refl}
-use Rattle.types.specs.Outcomes.{Outcome, refused, done, wrote, needed, candidate, ended, missing, invalid, valid, number, said, entry, none}
+use Rattle.pool_types.specs.Outcomes.{Outcome, refused, done, wrote, needed, candidate, ended, missing, invalid, valid, number, said, entry, none}
 
 -- a changing call: a refusal answers with its number, 1 to 30; done is 0, and what is neither has a number from 100 on
 unfoldable pub codeOf : Outcome → ℕ

@@ -10,8 +10,8 @@ use Rattle.entries.specs.Entries.{placeOf}
 use Rattle.entries.specs.Layout.{entriesOf, entriesRoom}
 use Rattle.entries.specs.declared.table.Place.{Place}
 use Rattle.entries.specs.declared.table.Place.the-variants.{At, Nowhere}
-use Rattle.types.specs.declared.FeeStrategy.{FeeStrategy}
-use Rattle.types.specs.declared.FeeStrategy.the-variants.{FeePerByte, FeePerCycle}
+use Rattle.pool_types.specs.declared.FeeStrategy.{FeeStrategy}
+use Rattle.pool_types.specs.declared.FeeStrategy.the-variants.{FeePerByte, FeePerCycle}
 
 -- how transactions are weighed: 0 is by byte, any other word by cycle
 abbrev pub strategyOf : ℕ → FeeStrategy

@@ -13,11 +13,11 @@ use Rattle.words.specs.Ids.{idOf}
 use Rattle.words.specs.Rows.{stored}
 use Rattle.words.specs.Tables.{put-end, of-none}
 use Rattle.words.specs.declared.ids.Id.{Id}
-use Rattle.types.specs.declared.Mempool.{Mempool}
-use Rattle.types.specs.declared.ListOutcome.{ListOutcome}
-use Rattle.types.specs.declared.EntryOutcome.{EntryOutcome}
-use Rattle.types.specs.declared.EntryOutcome.the-variants.{Entry, NoEntry, NotLooked}
-use Rattle.types.specs.Outcomes.{Outcome, refused, done, wrote, needed, candidate, ended, missing, invalid, valid, number, said, entry, none, listedOf, lookedOf}
+use Rattle.pool_types.specs.declared.Mempool.{Mempool}
+use Rattle.pool_types.specs.declared.ListOutcome.{ListOutcome}
+use Rattle.pool_types.specs.declared.EntryOutcome.{EntryOutcome}
+use Rattle.pool_types.specs.declared.EntryOutcome.the-variants.{Entry, NoEntry, NotLooked}
+use Rattle.pool_types.specs.Outcomes.{Outcome, refused, done, wrote, needed, candidate, ended, missing, invalid, valid, number, said, entry, none, listedOf, lookedOf}
 use Rattle.mempool.specs.Queries.{spendingOf}
 use Rattle.mempool.specs.Listing.{Row, rows, rowWords, Laid, Listing, listing, topOf, Topped, RowPut, row-put, laid-none}
 use Rattle.host.specs.State.{stateOf}

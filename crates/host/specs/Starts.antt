@@ -8,10 +8,10 @@ use native.Mathlib.Decide.{ℕ-discrete}
 use lib.ListN.{length, getD, set, length-set}
 use lib.Seq.{getD-set-same, getD-set-other}
 use Rattle.words.specs.Lists.{pick}
-use Rattle.types.specs.declared.Mempool.{Mempool}
-use Rattle.types.specs.declared.MempoolConfig.{MempoolConfig}
-use Rattle.types.specs.declared.StartOutcome.{StartOutcome}
-use Rattle.types.specs.declared.StartOutcome.the-variants.{Ready, NotStarted}
+use Rattle.pool_types.specs.declared.Mempool.{Mempool}
+use Rattle.pool_types.specs.declared.MempoolConfig.{MempoolConfig}
+use Rattle.pool_types.specs.declared.StartOutcome.{StartOutcome}
+use Rattle.pool_types.specs.declared.StartOutcome.the-variants.{Ready, NotStarted}
 use Rattle.arguments.specs.Arguments.{flagged}
 use Rattle.entries.specs.Layout.{entriesRoom}
 use Rattle.boxes.specs.Layout.{boxesRoom}

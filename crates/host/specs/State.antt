@@ -1,4 +1,4 @@
--- The state and a submission as the C side holds them: words of 64 bits, in the order of the fields. Each struct of crate types has its own
+-- The state and a submission as the C side holds them: words of 64 bits, in the order of the fields. Each struct of crate pool_types has its own
 -- decoding, and every word has a meaning. The words 9 to 13 are what a submission changes, and word 24 is no part of the state: how many ids the
 -- last changing call wrote.
 use Prim.Native.Nat.{ℕ, _%_, _≤_, _<_}
@@ -13,17 +13,17 @@ use lib.Seq.{getD-set-same, getD-set-other}
 use borrow.Author.Tests.{eq-eqb, ne-eqb}
 use Rattle.words.specs.Lists.{pick}
 use Rattle.words.specs.Ids.{wordsAt}
-use Rattle.types.specs.declared.Counts.{Counts}
-use Rattle.types.specs.declared.Sums.{Sums}
-use Rattle.types.specs.declared.Pass.{Pass}
-use Rattle.types.specs.declared.FeeStrategy.the-variants.{FeePerCycle}
-use Rattle.types.specs.declared.MempoolConfig.{MempoolConfig}
-use Rattle.types.specs.declared.Mempool.{Mempool}
-use Rattle.types.specs.declared.Submission.{Submission}
-use Rattle.types.specs.declared.Source.{Source}
-use Rattle.types.specs.declared.Source.the-variants.{Local, Peer}
-use Rattle.types.specs.declared.Verdict.{Verdict}
-use Rattle.types.specs.declared.Verdict.the-variants.{Valid, Invalid, Absent}
+use Rattle.pool_types.specs.declared.Counts.{Counts}
+use Rattle.pool_types.specs.declared.Sums.{Sums}
+use Rattle.pool_types.specs.declared.Pass.{Pass}
+use Rattle.pool_types.specs.declared.FeeStrategy.the-variants.{FeePerCycle}
+use Rattle.pool_types.specs.declared.MempoolConfig.{MempoolConfig}
+use Rattle.pool_types.specs.declared.Mempool.{Mempool}
+use Rattle.pool_types.specs.declared.Submission.{Submission}
+use Rattle.pool_types.specs.declared.Source.{Source}
+use Rattle.pool_types.specs.declared.Source.the-variants.{Local, Peer}
+use Rattle.pool_types.specs.declared.Verdict.{Verdict}
+use Rattle.pool_types.specs.declared.Verdict.the-variants.{Valid, Invalid, Absent}
 use Rattle.arguments.specs.Arguments.{flagged}
 use Rattle.host.specs.Host.{strategyOf}
 

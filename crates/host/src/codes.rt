@@ -1,9 +1,9 @@
 // What a call answers the C side: one number for each outcome.
-use types::ListOutcome;
-use types::ProcessingOutcome;
-use types::TestOutcome;
+use pool_types::ListOutcome;
+use pool_types::ProcessingOutcome;
+use pool_types::TestOutcome;
 ghost use mathlib.Core.Path.{_≡_};
-ghost use Rattle.types.specs.Outcomes.{processedOf, testedOf, listedOf};
+ghost use Rattle.pool_types.specs.Outcomes.{processedOf, testedOf, listedOf};
 ghost use Rattle.host.specs.Codes.{codeOf, writtenOf};
 ghost use Rattle.host.specs.Queries.{queryOf};
 

@@ -1,13 +1,13 @@
 // The state and a submission, read from words that the C side holds and stored back to them. Only this file knows the layout.
-use types::Counts;
-use types::FeeStrategy;
-use types::Mempool;
-use types::MempoolConfig;
-use types::Pass;
-use types::Source;
-use types::Submission;
-use types::Sums;
-use types::Verdict;
+use pool_types::Counts;
+use pool_types::FeeStrategy;
+use pool_types::Mempool;
+use pool_types::MempoolConfig;
+use pool_types::Pass;
+use pool_types::Source;
+use pool_types::Submission;
+use pool_types::Sums;
+use pool_types::Verdict;
 use words::ids::Id;
 ghost use mathlib.Core.Path.{_≡_};
 ghost use Prim.Native.Nat.{_+_, _≤_};

@@ -3,8 +3,8 @@ use Prim.Native.Nat.{ℕ, _/_, _≤_}
 use mathlib.Core.Path.{_≡_, sym, _∙_}
 use mathlib.Core.List.{List}
 use lib.ListN.{length}
-use Rattle.types.specs.declared.Mempool.{Mempool}
-use Rattle.types.specs.Outcomes.{blockOf}
+use Rattle.pool_types.specs.declared.Mempool.{Mempool}
+use Rattle.pool_types.specs.Outcomes.{blockOf}
 use Rattle.stats.specs.declared.FeeStats.{FeeStats}
 use Rattle.peers.specs.declared.PeerRecord.{PeerRecord}
 use Rattle.answers.specs.Answers.{Wrote}

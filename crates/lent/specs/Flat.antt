@@ -6,7 +6,7 @@ use native.Mathlib.Nat.{le-of-suc-le-suc, not-suc-le-zero}
 use native.Mathlib.Omega.{arith}
 use lib.ListN.{length, getD}
 use lib.Seq.{length-take-le, getD-take, ext-getD}
-use Rattle.types.specs.declared.Mempool.{Mempool}
+use Rattle.pool_types.specs.declared.Mempool.{Mempool}
 use Rattle.expiring_cache.specs.Layout.{cacheOf}
 use Rattle.peers.specs.Peers.{peerOf, noPeer, peersOf}
 use Rattle.peers.specs.Flat.{flatPeers, flats, flat-at}

@@ -8,7 +8,7 @@ use lib.Dec.{leb, ltb}
 use lib.ListN.{length}
 use borrow.Author.Tests.{leb-true, ltb-false, le-leb, le-ltb}
 use Rattle.words.specs.Lists.{pick}
-use Rattle.types.specs.declared.Mempool.{Mempool}
+use Rattle.pool_types.specs.declared.Mempool.{Mempool}
 use Rattle.expiring_cache.specs.Layout.{cacheOf, cacheRoom}
 use Rattle.expiring_cache.specs.Layout.{ok-room as room-cache, room-ok as cache-room}
 use Rattle.peers.specs.Peers.{peersOf}

@@ -6,13 +6,13 @@ use mathlib.Core.List.{List}
 use native.Mathlib.Omega.{arith}
 use lib.ListN.{length}
 use Rattle.words.specs.Ids.{idOf}
-use Rattle.types.specs.declared.Mempool.{Mempool}
-use Rattle.types.specs.declared.Submission.{Submission}
-use Rattle.types.specs.declared.Verdict.{Verdict}
-use Rattle.types.specs.declared.Verdict.the-variants.{Invalid, Absent}
-use Rattle.types.specs.declared.ProcessingOutcome.{ProcessingOutcome}
-use Rattle.types.specs.declared.ProcessingOutcome.the-variants.{Declined, VerdictNeeded}
-use Rattle.types.specs.Outcomes.{Outcome, refused, needed, processedOf}
+use Rattle.pool_types.specs.declared.Mempool.{Mempool}
+use Rattle.pool_types.specs.declared.Submission.{Submission}
+use Rattle.pool_types.specs.declared.Verdict.{Verdict}
+use Rattle.pool_types.specs.declared.Verdict.the-variants.{Invalid, Absent}
+use Rattle.pool_types.specs.declared.ProcessingOutcome.{ProcessingOutcome}
+use Rattle.pool_types.specs.declared.ProcessingOutcome.the-variants.{Declined, VerdictNeeded}
+use Rattle.pool_types.specs.Outcomes.{Outcome, refused, needed, processedOf}
 use Rattle.expiring_cache.specs.Layout.{room-still, Inserted}
 use Rattle.peers.specs.Peers.{peersOf, standing}
 use Rattle.peers.specs.declared.PeerRecord.{PeerRecord}

@@ -2,10 +2,10 @@
 -- "nothing changes".
 use Prim.Native.Nat.{ℕ}
 use mathlib.Core.Path.{_≡_, sym, ap, _∙_}
-use Rattle.types.specs.declared.Mempool.{Mempool}
-use Rattle.types.specs.declared.MempoolConfig.{MempoolConfig}
-use Rattle.types.specs.declared.StartOutcome.{StartOutcome}
-use Rattle.types.specs.declared.StartOutcome.the-variants.{Ready, NotStarted}
+use Rattle.pool_types.specs.declared.Mempool.{Mempool}
+use Rattle.pool_types.specs.declared.MempoolConfig.{MempoolConfig}
+use Rattle.pool_types.specs.declared.StartOutcome.{StartOutcome}
+use Rattle.pool_types.specs.declared.StartOutcome.the-variants.{Ready, NotStarted}
 use Rattle.stats.specs.Stats.{fresh}
 use Rattle.stats.specs.declared.FeeStats.{FeeStats}
 use Rattle.mempool.specs.Start.{Sizes, started}

@@ -15,10 +15,10 @@ use Rattle.words.specs.Rows.{stored, stored-append, recAt, recs, length-recs, g
 use Rattle.words.specs.Tables.{Table, put-end, of-none, of-suc}
 use Rattle.words.specs.Ids.{idOf, idAt, idWords}
 use Rattle.words.specs.declared.ids.Id.{Id}
-use Rattle.types.specs.declared.Mempool.{Mempool}
-use Rattle.types.specs.Outcomes.{Outcome, refused, wrote, listedOf}
-use Rattle.types.specs.declared.ListOutcome.{ListOutcome}
-use Rattle.types.specs.declared.ListOutcome.the-variants.{Listed, NotListed}
+use Rattle.pool_types.specs.declared.Mempool.{Mempool}
+use Rattle.pool_types.specs.Outcomes.{Outcome, refused, wrote, listedOf}
+use Rattle.pool_types.specs.declared.ListOutcome.{ListOutcome}
+use Rattle.pool_types.specs.declared.ListOutcome.the-variants.{Listed, NotListed}
 use Rattle.entries.specs.Entries.{Entry}
 use Rattle.entries.specs.Layout.{entryAt, entriesOf, entriesRoom, entries}
 

@@ -10,8 +10,8 @@ use lib.ListN.{getD}
 use borrow.Author.Tests.{le-leb, lt-leb}
 use Rattle.words.specs.Lists.{pick}
 use Rattle.words.specs.Find.{found}
-use Rattle.types.specs.declared.Mempool.{Mempool}
-use Rattle.types.specs.Outcomes.{Outcome, refused, said, entry, none}
+use Rattle.pool_types.specs.declared.Mempool.{Mempool}
+use Rattle.pool_types.specs.Outcomes.{Outcome, refused, said, entry, none}
 use Rattle.entries.specs.Entries.{Entry, pooled, placeOf}
 use Rattle.entries.specs.Laws.{at-place, no-place}
 use Rattle.entries.specs.Layout.{entryAt, entriesOf, entriesRoom, entries}

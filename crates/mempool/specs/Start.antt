@@ -5,10 +5,10 @@ use mathlib.Core.Path.{_≡_, refl}
 use mathlib.Core.Bool.{Bool, true, false, not}
 use lib.Dec.{eqb, leb, ltb}
 use Rattle.words.specs.Lists.{pick}
-use Rattle.types.specs.declared.MempoolConfig.{MempoolConfig}
-use Rattle.types.specs.declared.Mempool.{Mempool}
-use Rattle.types.specs.declared.StartOutcome.{StartOutcome}
-use Rattle.types.specs.declared.StartOutcome.the-variants.{Ready, NotStarted}
+use Rattle.pool_types.specs.declared.MempoolConfig.{MempoolConfig}
+use Rattle.pool_types.specs.declared.Mempool.{Mempool}
+use Rattle.pool_types.specs.declared.StartOutcome.{StartOutcome}
+use Rattle.pool_types.specs.declared.StartOutcome.the-variants.{Ready, NotStarted}
 
 -- "E entries (1 to 4,096), R box records (1 to 65,536) and K cache ids (1 to 10,000) are the sizes of the lent store"
 abbrev pub within : ℕ → ℕ → Bool

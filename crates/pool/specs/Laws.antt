@@ -13,7 +13,7 @@ use Rattle.words.specs.Lists.{pick}
 use Rattle.words.specs.Find.{without, butLast, dropLast}
 use Rattle.words.specs.Tables.{drop-of, drop-past}
 use Rattle.words.specs.Ids.{idAt}
-use Rattle.types.specs.declared.Counts.{Counts}
+use Rattle.pool_types.specs.declared.Counts.{Counts}
 use Rattle.entries.specs.Entries.{Entry, pooled}
 use Rattle.entries.specs.Layout.{entriesOf, entriesRoom, entries}
 use Rattle.entries.specs.Layout.{ok-room as room-entries, room-ok as entries-room}

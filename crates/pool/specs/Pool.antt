@@ -7,7 +7,7 @@ use lib.Dec.{leb, ltb}
 use lib.ListN.{length}
 use Rattle.words.specs.Lists.{pick}
 use Rattle.words.specs.Find.{without, last, dropLast}
-use Rattle.types.specs.declared.Counts.{Counts}
+use Rattle.pool_types.specs.declared.Counts.{Counts}
 use Rattle.entries.specs.Entries.{Entry, ahead, insertBy, pooled, credit}
 use Rattle.entries.specs.Layout.{entriesOf, entriesRoom, EntriesOk}
 use Rattle.entries.specs.declared.fields.ValidationCost.the-variants.{Unmeasured}

@@ -6,7 +6,7 @@ use mathlib.Core.List.{List}
 use native.Mathlib.Omega.{arith}
 use Rattle.words.specs.Lists.{pick}
 use Rattle.words.specs.Find.{without}
-use Rattle.types.specs.declared.Counts.{Counts}
+use Rattle.pool_types.specs.declared.Counts.{Counts}
 use Rattle.entries.specs.Entries.{Entry, insertBy, pooled}
 use Rattle.entries.specs.Layout.{entriesOf, ok-fewer}
 use Rattle.entries.specs.Layout.{Left as Rows}

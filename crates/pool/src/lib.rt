@@ -10,7 +10,7 @@ use entries::fields::id_at;
 use entries::fields::weight_at;
 use entries::table::insert_entry;
 use entries::table::remove_entry;
-use types::Counts;
+use pool_types::Counts;
 use words::ids::Id;
 ghost use mathlib.Core.Path.{_≡_};
 ghost use mathlib.Core.Bool.{not};

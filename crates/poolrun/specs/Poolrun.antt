@@ -4,10 +4,10 @@ use mathlib.Core.Path.{_≡_}
 use mathlib.Core.List.{List}
 use native.Mathlib.Omega.{arith}
 use lib.ListN.{length, take, length-take}
-use Rattle.session.specs.Session.{nothing}
-use Rattle.session.specs.Laws.{holds-nothing}
-use Rattle.session.specs.After.{Holds}
-use Rattle.session.specs.declared.Kept.{Kept}
+use Rattle.console.specs.Console.{nothing}
+use Rattle.console.specs.Laws.{holds-nothing}
+use Rattle.console.specs.After.{Holds}
+use Rattle.console.specs.declared.Kept.{Kept}
 
 pub record Running (e b k p a l o : List ℕ) (h : Kept) : Type 0 where
   pub holds : Holds e b k p a h

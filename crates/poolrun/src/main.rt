@@ -1,14 +1,14 @@
 // poolrun: reads one bracket form a line, from standard input or from the file that its first argument names, and prints one answer a line
-// (docs/FORMS.md). What a line comes to is crate session's; here is the loop that cuts the input into lines.
+// (docs/FORMS.md). What a line comes to is crate console's; here is the loop that cuts the input into lines.
+use console::Kept;
+use console::calls::call_of;
+use console::start::fresh;
+use console::tell;
 use lines::read::read_form;
-use session::Kept;
-use session::calls::call_of;
-use session::start::fresh;
-use session::tell;
 use words::sums::saturating_add;
 ghost use mathlib.Core.Path.{_≡_};
 ghost use Prim.Native.Nat.{min};
-ghost use Rattle.session.specs.After.{Holds};
+ghost use Rattle.console.specs.After.{Holds};
 ghost use Rattle.poolrun.specs.Poolrun.{Running};
 
 // What goes from byte to byte: what is held of the pool, how much of a line was read, and how many lines there were.

@@ -6,11 +6,11 @@ use mathlib.Core.List.{List}
 use native.Mathlib.Omega.{arith}
 use lib.ListN.{length}
 use Rattle.words.specs.Sums.{capped}
-use Rattle.types.specs.declared.Mempool.{Mempool}
-use Rattle.types.specs.declared.Sums.{Sums}
-use Rattle.types.specs.declared.Submission.{Submission}
-use Rattle.types.specs.declared.Source.{Source}
-use Rattle.types.specs.declared.Source.the-variants.{Local, Peer}
+use Rattle.pool_types.specs.declared.Mempool.{Mempool}
+use Rattle.pool_types.specs.declared.Sums.{Sums}
+use Rattle.pool_types.specs.declared.Submission.{Submission}
+use Rattle.pool_types.specs.declared.Source.{Source}
+use Rattle.pool_types.specs.declared.Source.the-variants.{Local, Peer}
 use Rattle.peers.specs.Peers.{standing, chargePeer, noneFree, usedAfter}
 use Rattle.peers.specs.Laws.{room-after}
 use Rattle.peers.specs.Flat.{flatPeers}

@@ -4,13 +4,13 @@ use mathlib.Core.Path.{_≡_, refl}
 use mathlib.Core.Bool.{false}
 use mathlib.Core.List.{List, [], _∷_}
 use Rattle.words.specs.Ids.{idOf}
-use Rattle.types.specs.declared.FeeStrategy.the-variants.{FeePerByte}
-use Rattle.types.specs.declared.Mempool.{Mempool}
-use Rattle.types.specs.declared.Source.{Source}
-use Rattle.types.specs.declared.Source.the-variants.{Local, Peer}
-use Rattle.types.specs.declared.Verdict.{Verdict}
-use Rattle.types.specs.declared.Verdict.the-variants.{Valid, Invalid, Absent}
-use Rattle.types.specs.Outcomes.{refused, needed}
+use Rattle.pool_types.specs.declared.FeeStrategy.the-variants.{FeePerByte}
+use Rattle.pool_types.specs.declared.Mempool.{Mempool}
+use Rattle.pool_types.specs.declared.Source.{Source}
+use Rattle.pool_types.specs.declared.Source.the-variants.{Local, Peer}
+use Rattle.pool_types.specs.declared.Verdict.{Verdict}
+use Rattle.pool_types.specs.declared.Verdict.the-variants.{Valid, Invalid, Absent}
+use Rattle.pool_types.specs.Outcomes.{refused, needed}
 use Rattle.words.specs.declared.ids.Id.{Id}
 use Rattle.arguments.specs.Arguments.{feeOf, heightKey}
 use Rattle.expiring_cache.specs.Cache.{Held}

@@ -7,14 +7,14 @@ use lib.ListN.{length}
 use borrow.Author.Tests.{eq-eqb, ne-eqb}
 use Rattle.words.specs.Lists.{yes, no}
 use Rattle.words.specs.Ids.{idOf}
-use Rattle.types.specs.declared.Mempool.{Mempool}
-use Rattle.types.specs.declared.Sums.{Sums}
-use Rattle.types.specs.declared.Submission.{Submission}
-use Rattle.types.specs.declared.Verdict.{Verdict}
-use Rattle.types.specs.declared.Verdict.the-variants.{Valid, Invalid, Absent}
-use Rattle.types.specs.declared.ProcessingOutcome.{ProcessingOutcome}
-use Rattle.types.specs.declared.ProcessingOutcome.the-variants.{Declined, VerdictNeeded}
-use Rattle.types.specs.Outcomes.{Outcome, refused, needed, processedOf}
+use Rattle.pool_types.specs.declared.Mempool.{Mempool}
+use Rattle.pool_types.specs.declared.Sums.{Sums}
+use Rattle.pool_types.specs.declared.Submission.{Submission}
+use Rattle.pool_types.specs.declared.Verdict.{Verdict}
+use Rattle.pool_types.specs.declared.Verdict.the-variants.{Valid, Invalid, Absent}
+use Rattle.pool_types.specs.declared.ProcessingOutcome.{ProcessingOutcome}
+use Rattle.pool_types.specs.declared.ProcessingOutcome.the-variants.{Declined, VerdictNeeded}
+use Rattle.pool_types.specs.Outcomes.{Outcome, refused, needed, processedOf}
 use Rattle.expiring_cache.specs.Layout.{cacheOf, room-still, Inserted}
 use Rattle.peers.specs.Flat.{flatPeers}
 use Rattle.peers.specs.declared.Standing.{Standing}

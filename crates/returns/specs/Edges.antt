@@ -6,10 +6,10 @@ use mathlib.Core.Bool.{Bool, true, false}
 use mathlib.Core.List.{List, [], _∷_}
 use Rattle.words.specs.Ids.{idOf, idAt, join-is}
 use Rattle.words.specs.declared.ids.Id.{Id}
-use Rattle.types.specs.declared.FeeStrategy.the-variants.{FeePerCycle}
-use Rattle.types.specs.declared.Mempool.{Mempool}
-use Rattle.types.specs.declared.Source.the-variants.{Local}
-use Rattle.types.specs.Outcomes.{refused, done}
+use Rattle.pool_types.specs.declared.FeeStrategy.the-variants.{FeePerCycle}
+use Rattle.pool_types.specs.declared.Mempool.{Mempool}
+use Rattle.pool_types.specs.declared.Source.the-variants.{Local}
+use Rattle.pool_types.specs.Outcomes.{refused, done}
 use Rattle.arguments.specs.Arguments.{heightKey}
 use Rattle.expiring_cache.specs.Cache.{Held}
 use Rattle.entries.specs.Entries.{Entry, ahead}

@@ -8,10 +8,10 @@ use lib.Dec.{T, leb, ltb, lit<}
 use borrow.Author.Tests.{leb-true, leb-false, ltb-false, le-leb, lt-leb, le-ltb, eq-eqb, ne-eqb, not-false}
 use Rattle.words.specs.Lists.{pick, yes, no}
 use Rattle.words.specs.Ids.{idOf}
-use Rattle.types.specs.declared.Mempool.{Mempool}
-use Rattle.types.specs.declared.ReturnOutcome.the-variants.{Returned, NotReturned}
-use Rattle.types.specs.declared.InvalidateOutcome.the-variants.{Invalidated, NotInvalidated}
-use Rattle.types.specs.Outcomes.{Outcome, refused, returnedOf, invalidatedOf}
+use Rattle.pool_types.specs.declared.Mempool.{Mempool}
+use Rattle.pool_types.specs.declared.ReturnOutcome.the-variants.{Returned, NotReturned}
+use Rattle.pool_types.specs.declared.InvalidateOutcome.the-variants.{Invalidated, NotInvalidated}
+use Rattle.pool_types.specs.Outcomes.{Outcome, refused, returnedOf, invalidatedOf}
 use Rattle.arguments.specs.Arguments.{whole, records}
 use Rattle.expiring_cache.specs.Layout.{cacheRoom, CacheOk, room-still}
 use Rattle.expiring_cache.specs.Layout.{ok-room as room-cache, room-ok as cache-room}

@@ -6,11 +6,11 @@ use mathlib.Core.List.{List, [], _∷_}
 use lib.Dec.{ltb}
 use Rattle.words.specs.Lists.{pick}
 use Rattle.words.specs.Ids.{idOf}
-use Rattle.types.specs.declared.Mempool.{Mempool}
-use Rattle.types.specs.declared.ReturnOutcome.{ReturnOutcome}
-use Rattle.types.specs.declared.ReturnOutcome.the-variants.{Returned, NotReturned}
-use Rattle.types.specs.declared.InvalidateOutcome.{InvalidateOutcome}
-use Rattle.types.specs.declared.InvalidateOutcome.the-variants.{Invalidated, NotInvalidated}
+use Rattle.pool_types.specs.declared.Mempool.{Mempool}
+use Rattle.pool_types.specs.declared.ReturnOutcome.{ReturnOutcome}
+use Rattle.pool_types.specs.declared.ReturnOutcome.the-variants.{Returned, NotReturned}
+use Rattle.pool_types.specs.declared.InvalidateOutcome.{InvalidateOutcome}
+use Rattle.pool_types.specs.declared.InvalidateOutcome.the-variants.{Invalidated, NotInvalidated}
 use Rattle.arguments.specs.Arguments.{whole, records}
 use Rattle.entries.specs.Entries.{pooled}
 use Rattle.boxes.specs.Among.{among}

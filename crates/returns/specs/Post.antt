@@ -6,9 +6,9 @@ use mathlib.Core.Bool.{Bool, false, not}
 use mathlib.Core.List.{List}
 use lib.Dec.{leb, ltb}
 use Rattle.words.specs.Lists.{pick}
-use Rattle.types.specs.declared.Counts.{Counts}
-use Rattle.types.specs.declared.Mempool.{Mempool}
-use Rattle.types.specs.Outcomes.{Outcome, refused}
+use Rattle.pool_types.specs.declared.Counts.{Counts}
+use Rattle.pool_types.specs.declared.Mempool.{Mempool}
+use Rattle.pool_types.specs.Outcomes.{Outcome, refused}
 use Rattle.expiring_cache.specs.Layout.{cacheRoom, Inserted}
 use Rattle.pool.specs.Pool.{Tables, fitsTest, Left}
 use Rattle.store.specs.World.{worldOf, Result}

@@ -7,9 +7,9 @@ use mathlib.Core.List.{List, []}
 use lib.Dec.{eqb, ltb}
 use Rattle.words.specs.Lists.{pick}
 use Rattle.words.specs.Ids.{idOf}
-use Rattle.types.specs.declared.Mempool.{Mempool}
-use Rattle.types.specs.declared.MempoolConfig.{MempoolConfig}
-use Rattle.types.specs.Outcomes.{refused, done}
+use Rattle.pool_types.specs.declared.Mempool.{Mempool}
+use Rattle.pool_types.specs.declared.MempoolConfig.{MempoolConfig}
+use Rattle.pool_types.specs.Outcomes.{refused, done}
 use Rattle.weight.specs.Weight.{feePerFactor}
 use Rattle.arguments.specs.Arguments.{whole, records, heightKey}
 use Rattle.expiring_cache.specs.Cache.{remember}

@@ -9,7 +9,7 @@ use lib.Dec.{leb, ltb}
 use lib.ListN.{length}
 use borrow.Author.Tests.{leb-true, ltb-false, le-leb, lt-ltb, le-ltb}
 use Rattle.words.specs.Lists.{pick}
-use Rattle.types.specs.declared.Mempool.{Mempool}
+use Rattle.pool_types.specs.declared.Mempool.{Mempool}
 use Rattle.expiring_cache.specs.Layout.{cacheRoom, CacheOk}
 use Rattle.expiring_cache.specs.Layout.{ok-room as room-cache, room-ok as cache-room}
 use Rattle.pool.specs.Pool.{PoolFits, fitsTest}

@@ -1,8 +1,8 @@
 -- The store as its tables decode, and what a call makes of it.
 use Prim.Native.Nat.{ℕ}
 use mathlib.Core.List.{List, []}
-use Rattle.types.specs.declared.Mempool.{Mempool}
-use Rattle.types.specs.Outcomes.{Outcome}
+use Rattle.pool_types.specs.declared.Mempool.{Mempool}
+use Rattle.pool_types.specs.Outcomes.{Outcome}
 use Rattle.expiring_cache.specs.Cache.{Held}
 use Rattle.expiring_cache.specs.Layout.{cacheOf}
 use Rattle.peers.specs.Flat.{flatPeers}

@@ -2,7 +2,7 @@
 // since no word of a table is used as an index.
 use expiring_cache::cache_room;
 use pool::fits;
-use types::Mempool;
+use pool_types::Mempool;
 ghost use mathlib.Core.Path.{_≡_};
 ghost use Prim.Native.Nat.{max};
 ghost use Rattle.words.specs.Lists.{pick};

@@ -5,8 +5,8 @@ use mathlib.Core.Path.{_≡_, refl}
 use lib.Dec.{eqb}
 use Rattle.words.specs.Lists.{pick}
 use Rattle.words.specs.Sums.{cap, quotientOf}
-use Rattle.types.specs.declared.FeeStrategy.{FeeStrategy}
-use Rattle.types.specs.declared.FeeStrategy.the-variants.{FeePerByte, FeePerCycle}
+use Rattle.pool_types.specs.declared.FeeStrategy.{FeeStrategy}
+use Rattle.pool_types.specs.declared.FeeStrategy.the-variants.{FeePerByte, FeePerCycle}
 
 abbrev pub factorOf : FeeStrategy → ℕ → ℕ → ℕ
 factorOf FeePerByte size cost = size

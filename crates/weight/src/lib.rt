@@ -1,7 +1,7 @@
 // The base weight of a transaction.
 ghost use mathlib.Core.Path.{_≡_};
 ghost use Rattle.weight.specs.Weight.{factorOf, feePerFactor};
-use types::FeeStrategy;
+use pool_types::FeeStrategy;
 use words::wide;
 
 // What stands for a cost of 0, by which nothing can be divided.

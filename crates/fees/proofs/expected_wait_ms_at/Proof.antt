@@ -3,7 +3,7 @@ use Prim.Native.Nat.{_≤_, _<_}
 use mathlib.Core.Path.{_≡_}
 use native.Mathlib.Omega.{arith}
 use borrow.Author.Needs.{needs}
-use Rattle.types.specs.Outcomes.{numberOf}
+use Rattle.pool_types.specs.Outcomes.{numberOf}
 use Rattle.entries.specs.Layout.{ok-room}
 use Rattle.fees.proofs.Laws.{wait-entries, wait-none, wait-large, wait-given}
 use Rattle.fees.proofs.expected_wait_ms_at.Statement.{statement}

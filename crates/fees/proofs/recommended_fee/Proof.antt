@@ -2,7 +2,7 @@
 use mathlib.Core.Path.{ap, _∙_}
 use native.Mathlib.Omega.{arith}
 use borrow.Author.Needs.{needs}
-use Rattle.types.specs.Outcomes.{numberOf}
+use Rattle.pool_types.specs.Outcomes.{numberOf}
 use Rattle.fees.specs.Fees.{atLeast}
 use Rattle.fees.proofs.Laws.{fee-refused, fee-given}
 use Rattle.fees.proofs.recommended_fee.Statement.{statement}

@@ -44,16 +44,16 @@ use denote.Exit.{yes}
 use Rattle.stats.specs.declared.FeeStats.{FeeStats}
 use Rattle.stats.proofs.FeeStats as S
 use Rattle.stats.proofs.FeeStats.Laws as S′
-use Rattle.types.specs.declared.Mempool.{Mempool}
-use Rattle.types.proofs.Mempool as Mp
-use Rattle.types.proofs.Mempool.Laws as Mp′
+use Rattle.pool_types.specs.declared.Mempool.{Mempool}
+use Rattle.pool_types.proofs.Mempool as Mp
+use Rattle.pool_types.proofs.Mempool.Laws as Mp′
 use Rattle.blocks.specs.declared.Applied.{Applied}
 use Rattle.blocks.proofs.Applied as Ap
 use Rattle.blocks.proofs.Applied.Laws as Ap′
 use Rattle.lent.specs.declared.Blocked.{Blocked}
 use Rattle.lent.proofs.Blocked as Bl
 use Rattle.lent.proofs.Blocked.Laws as Bl′
-use Rattle.types.specs.Outcomes.{blockOf}
+use Rattle.pool_types.specs.Outcomes.{blockOf}
 use Rattle.store.specs.Fits.{Testable, Fits}
 use Rattle.blocks.specs.Post.{Post as After, Untouched, resultOf}
 use Rattle.blocks.specs.Numbers.{ofBlock}

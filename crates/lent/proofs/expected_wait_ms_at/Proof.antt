@@ -41,13 +41,13 @@ use denote.Exit.{yes}
 use Rattle.stats.specs.declared.FeeStats.{FeeStats}
 use Rattle.stats.proofs.FeeStats as S
 use Rattle.stats.proofs.FeeStats.Laws as S′
-use Rattle.types.specs.declared.Mempool.{Mempool}
-use Rattle.types.proofs.Mempool as Mp
-use Rattle.types.proofs.Mempool.Laws as Mp′
-use Rattle.types.specs.declared.NumberOutcome.{NumberOutcome}
-use Rattle.types.proofs.NumberOutcome as Nu
-use Rattle.types.proofs.NumberOutcome.Laws as Nu′
-use Rattle.types.specs.Outcomes.{numberOf}
+use Rattle.pool_types.specs.declared.Mempool.{Mempool}
+use Rattle.pool_types.proofs.Mempool as Mp
+use Rattle.pool_types.proofs.Mempool.Laws as Mp′
+use Rattle.pool_types.specs.declared.NumberOutcome.{NumberOutcome}
+use Rattle.pool_types.proofs.NumberOutcome as Nu
+use Rattle.pool_types.proofs.NumberOutcome.Laws as Nu′
+use Rattle.pool_types.specs.Outcomes.{numberOf}
 use Rattle.fees.specs.Fees.{expectedWait}
 use Rattle.fees.proofs.expected_wait_ms_at as query
 use Rattle.fees.proofs.expected_wait_ms_at.Symbol as query-def

@@ -39,12 +39,12 @@ use denote.Triple.Table.{entered, cited}
 use denote.Triple.Clauses.{Lasts, lasts}
 use denote.Triple.Walked.{says, Stays, stay-none, stay-none-slice, walkOf, AllGo, goes-none, goes-none-slice, Walks, ends-at, walked, walk-meets}
 use denote.Exit.{yes}
-use Rattle.types.specs.declared.Mempool.{Mempool}
-use Rattle.types.proofs.Mempool as Mp
-use Rattle.types.proofs.Mempool.Laws as Mp′
-use Rattle.types.specs.declared.Submission.{Submission}
-use Rattle.types.proofs.Submission as Sb
-use Rattle.types.proofs.Submission.Laws as Sb′
+use Rattle.pool_types.specs.declared.Mempool.{Mempool}
+use Rattle.pool_types.proofs.Mempool as Mp
+use Rattle.pool_types.proofs.Mempool.Laws as Mp′
+use Rattle.pool_types.specs.declared.Submission.{Submission}
+use Rattle.pool_types.proofs.Submission as Sb
+use Rattle.pool_types.proofs.Submission.Laws as Sb′
 use Rattle.peers.specs.declared.PeerRecord.{PeerRecord}
 use Rattle.peers.proofs.PeerRecord as Pr
 use Rattle.peers.specs.declared.Standing.{Standing}

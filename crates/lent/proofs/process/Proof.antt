@@ -42,12 +42,12 @@ use denote.Triple.Table.{entered, cited}
 use denote.Triple.Clauses.{Lasts, lasts}
 use denote.Triple.Walked.{says, Stays, stay-none, stay-none-slice, gave-slice, walkOf, AllGo, goes-none, goes-none-slice, goes-gave-slice, Walks, ends-at, walked, walk-meets}
 use denote.Exit.{yes}
-use Rattle.types.specs.declared.Mempool.{Mempool}
-use Rattle.types.proofs.Mempool as Mp
-use Rattle.types.proofs.Mempool.Laws as Mp′
-use Rattle.types.specs.declared.Submission.{Submission}
-use Rattle.types.proofs.Submission as Sb
-use Rattle.types.proofs.Submission.Laws as Sb′
+use Rattle.pool_types.specs.declared.Mempool.{Mempool}
+use Rattle.pool_types.proofs.Mempool as Mp
+use Rattle.pool_types.proofs.Mempool.Laws as Mp′
+use Rattle.pool_types.specs.declared.Submission.{Submission}
+use Rattle.pool_types.proofs.Submission as Sb
+use Rattle.pool_types.proofs.Submission.Laws as Sb′
 use Rattle.process.proofs.Processed as Pd
 use Rattle.process.proofs.Processed.Laws as Pd′
 use Rattle.peers.specs.declared.PeerRecord.{PeerRecord}
@@ -63,7 +63,7 @@ use Rattle.lent.proofs.submission.Submitted as Sd
 use Rattle.lent.proofs.submission.Submitted.Laws as Sd′
 use mathlib.Core.Bool.{true}
 use Prim.Native.Nat.{min}
-use Rattle.types.specs.Outcomes.{processedOf}
+use Rattle.pool_types.specs.Outcomes.{processedOf}
 use Rattle.peers.specs.Peers.{peersOf, standing}
 use Rattle.process.specs.Numbers.{ofSubmission}
 use Rattle.lent.specs.Lent.{LentFits}

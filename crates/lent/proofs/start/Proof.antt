@@ -46,11 +46,11 @@ use Rattle.stats.proofs.FeeStats as S
 use Rattle.stats.proofs.FeeStats.Laws as S′
 use Rattle.peers.specs.declared.PeerRecord.{PeerRecord}
 use Rattle.peers.proofs.PeerRecord as Pr
-use Rattle.types.proofs.StartOutcome as So
-use Rattle.types.proofs.StartOutcome.Laws as So′
-use Rattle.types.specs.declared.MempoolConfig.{MempoolConfig}
-use Rattle.types.proofs.MempoolConfig as Cf
-use Rattle.types.proofs.MempoolConfig.Laws as Cf′
+use Rattle.pool_types.proofs.StartOutcome as So
+use Rattle.pool_types.proofs.StartOutcome.Laws as So′
+use Rattle.pool_types.specs.declared.MempoolConfig.{MempoolConfig}
+use Rattle.pool_types.proofs.MempoolConfig as Cf
+use Rattle.pool_types.proofs.MempoolConfig.Laws as Cf′
 use Rattle.lent.specs.declared.Begun.{Begun}
 use Rattle.lent.proofs.Begun as Be
 use Rattle.lent.proofs.Begun.Laws as Be′

@@ -7,8 +7,8 @@ use Rattle.poolrun.proofs.answer_line.Lts as lts
 use Rattle.lines.proofs.read.read_form.Reads as read-form-reads
 use Rattle.poolrun.proofs.put_newline.Reads as put-newline-reads
 use Rattle.poolrun.proofs.write_front.Reads as write-front-reads
-use Rattle.session.proofs.calls.call_of.Reads as call-of-reads
-use Rattle.session.proofs.tell.Reads as tell-reads
+use Rattle.console.proofs.calls.call_of.Reads as call-of-reads
+use Rattle.console.proofs.tell.Reads as tell-reads
 use Rattle.words.proofs.sums.saturating_add.Reads as saturating-add-reads
 
 -- src/main.rt:58:9

@@ -1,4 +1,4 @@
-use Rattle.session.specs.Laws.{cut-is}
+use Rattle.console.specs.Laws.{cut-is}
 use borrow.Author.Needs.{needs}
 use Rattle.poolrun.proofs.end_line.Statement.{statement}
 use Rattle.poolrun.proofs.end_line.Tie as tie

@@ -6,7 +6,7 @@ use Rattle.poolrun.proofs.run.Tie as tie
 use Rattle.poolrun.proofs.run.Reads as reads
 use Rattle.poolrun.proofs.run.Lts as lts
 use Rattle.poolrun.proofs.serve.Reads as serve-reads
-use Rattle.session.proofs.start.fresh.Reads as fresh-reads
+use Rattle.console.proofs.start.fresh.Reads as fresh-reads
 
 -- src/main.rt:288:15
 fresh-requires : tie.Need-fresh-requires

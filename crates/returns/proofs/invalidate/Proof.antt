@@ -2,7 +2,7 @@
 -- remembered. Assumes nothing.
 use borrow.Author.Needs.{needs}
 use mathlib.Core.Path.{refl, ap}
-use Rattle.types.specs.Outcomes.{refused, invalidatedOf}
+use Rattle.pool_types.specs.Outcomes.{refused, invalidatedOf}
 use Rattle.returns.specs.Numbers.{ofInvalidation, invalidation-unfit}
 use Rattle.returns.specs.Laws.{met, was-met, not-met, untouched, cache-fits, cache-holds, invalidate-stopped, remember-asks, invalidate-done}
 use Rattle.returns.proofs.invalidate.Statement.{statement}

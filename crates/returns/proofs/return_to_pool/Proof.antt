@@ -2,7 +2,7 @@
 -- transaction enters. Assumes nothing.
 use borrow.Author.Needs.{needs}
 use mathlib.Core.Path.{refl, ap}
-use Rattle.types.specs.Outcomes.{refused, returnedOf}
+use Rattle.pool_types.specs.Outcomes.{refused, returnedOf}
 use Rattle.pool.specs.Laws.{fits-true, fits-holds}
 use Rattle.returns.specs.Numbers.{ofReturn, return-numbered, return-unfit}
 use Rattle.returns.specs.Laws.{met, was-met, not-met, untouched, return-stopped, return-room, return-entered}

@@ -1,6 +1,6 @@
 -- `admission::outcome_of` meets its contract, case by case. Assumes nothing.
 use borrow.Author.Tests.{eq-eqb, ne-eqb}
-use Rattle.types.specs.Outcomes.{processedOf}
+use Rattle.pool_types.specs.Outcomes.{processedOf}
 use Rattle.admit.proofs.admission.outcome_of.Statement.{statement}
 use Rattle.admit.proofs.admission.outcome_of.Tie as tie
 

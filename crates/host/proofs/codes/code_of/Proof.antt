@@ -1,6 +1,6 @@
 -- `codes::code_of` meets its contract, outcome by outcome. Assumes nothing.
 use mathlib.Core.Path.{sym, ap}
-use Rattle.types.specs.Outcomes.{processedOf}
+use Rattle.pool_types.specs.Outcomes.{processedOf}
 use Rattle.host.specs.Codes.{codeOf}
 use borrow.Author.Needs.{needs}
 use Rattle.host.proofs.codes.code_of.Statement.{statement}

@@ -1,6 +1,6 @@
 -- `codes::list_code` meets its contract, outcome by outcome. Assumes nothing.
 use mathlib.Core.Path.{sym, ap}
-use Rattle.types.specs.Outcomes.{listedOf}
+use Rattle.pool_types.specs.Outcomes.{listedOf}
 use Rattle.host.specs.Queries.{queryOf}
 use borrow.Author.Needs.{needs}
 use Rattle.host.proofs.codes.list_code.Statement.{statement}

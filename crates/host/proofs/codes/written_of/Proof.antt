@@ -1,6 +1,6 @@
 -- `codes::written_of` meets its contract, outcome by outcome. Assumes nothing.
 use mathlib.Core.Path.{sym, ap}
-use Rattle.types.specs.Outcomes.{processedOf}
+use Rattle.pool_types.specs.Outcomes.{processedOf}
 use Rattle.host.specs.Codes.{writtenOf}
 use borrow.Author.Needs.{needs}
 use Rattle.host.proofs.codes.written_of.Statement.{statement}

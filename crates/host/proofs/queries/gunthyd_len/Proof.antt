@@ -1,6 +1,6 @@
 -- `gunthyd_len` meets its contract: the number pooled of the state that was read. Assumes nothing.
 use Rattle.host.specs.Queries.{queryOf, query-short, query-by}
-use Rattle.types.specs.Outcomes.{number}
+use Rattle.pool_types.specs.Outcomes.{number}
 use mathlib.Core.Path.{refl}
 use borrow.Author.Needs.{needs}
 use Rattle.host.proofs.queries.gunthyd_len.Statement.{statement}

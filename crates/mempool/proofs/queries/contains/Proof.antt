@@ -2,7 +2,7 @@
 use Rattle.entries.specs.Layout.{ok-room}
 use Rattle.expiring_cache.specs.Layout.{ok-room as cache-ok}
 use Rattle.mempool.specs.Queries.{contains-entries, contains-cache, contains-pooled, contains-held}
-use Rattle.types.specs.Outcomes.{testedOf}
+use Rattle.pool_types.specs.Outcomes.{testedOf}
 use native.Mathlib.Omega.{arith}
 use mathlib.Core.Path.{refl, sym, ap, _∙_}
 use borrow.Author.Needs.{needs}

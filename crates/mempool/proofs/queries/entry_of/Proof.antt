@@ -2,7 +2,7 @@
 use Rattle.mempool.specs.Queries.{entry-here, entry-absent}
 use Rattle.entries.specs.Laws.{place-fits}
 use Rattle.entries.specs.Layout.{ok-fewer}
-use Rattle.types.specs.Outcomes.{lookedOf}
+use Rattle.pool_types.specs.Outcomes.{lookedOf}
 use native.Mathlib.Omega.{arith}
 use mathlib.Core.Path.{refl, sym, ap, _∙_}
 use borrow.Author.Needs.{needs}

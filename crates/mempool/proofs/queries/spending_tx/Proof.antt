@@ -3,7 +3,7 @@ use Rattle.mempool.specs.Queries.{spending-entries, spending-boxes, spen
 use Rattle.indexes.specs.Owners.{ownerIds}
 use Rattle.boxes.specs.Layout.{room-ok as boxes-ok}
 use Rattle.entries.specs.Layout.{ok-room}
-use Rattle.types.specs.Outcomes.{lookedOf}
+use Rattle.pool_types.specs.Outcomes.{lookedOf}
 use mathlib.Core.List.{[], _∷_}
 use native.Mathlib.Omega.{arith}
 use mathlib.Core.Path.{refl, sym, ap, _∙_}

@@ -1,0 +1,339 @@
+-- What poolrun does with a line that was read (document 01's paragraph on `poolrun`; docs/FORMS.md): the text that it prints and what it holds
+-- afterwards, as a function of the form, of the words that it lends to the pool and of what it held.
+use Prim.Native.Nat.{ℕ, _/_}
+use mathlib.Core.Path.{_≡_, refl}
+use mathlib.Core.Bool.{Bool, true, false}
+use mathlib.Core.List.{List, [], _∷_}
+use lib.Dec.{eqb}
+use lib.ListN.{length, take}
+use Rattle.words.specs.Lists.{pick}
+use Rattle.words.specs.Ids.{idOf}
+use Rattle.pool_types.specs.declared.FeeStrategy.{FeeStrategy}
+use Rattle.pool_types.specs.declared.FeeStrategy.the-variants.{FeePerByte, FeePerCycle}
+use Rattle.pool_types.specs.declared.MempoolConfig.{MempoolConfig}
+use Rattle.pool_types.specs.declared.Mempool.{Mempool}
+use Rattle.pool_types.specs.declared.Pass.{Pass}
+use Rattle.pool_types.specs.declared.Source.{Source}
+use Rattle.pool_types.specs.declared.Source.the-variants.{Local, Peer}
+use Rattle.pool_types.specs.declared.Submission.{Submission}
+use Rattle.pool_types.specs.declared.StartOutcome.{StartOutcome}
+use Rattle.pool_types.specs.declared.StartOutcome.the-variants.{Ready, NotStarted}
+use Rattle.pool_types.specs.declared.Verdict.{Verdict}
+use Rattle.pool_types.specs.declared.Verdict.the-variants.{Valid, Invalid, Absent}
+use Rattle.pool_types.specs.Outcomes.{Outcome, refused, done, wrote, needed, candidate, ended, missing, invalid, valid, number, said, entry, none}
+use Rattle.entries.specs.Layout.{entriesRoom}
+use Rattle.boxes.specs.Layout.{boxesRoom}
+use Rattle.boxes.specs.Flat.{countOf, idsTo}
+use Rattle.expiring_cache.specs.Layout.{cacheRoom}
+use Rattle.peers.specs.Flat.{flatPeers}
+use Rattle.stats.specs.Stats.{fresh}
+use Rattle.stats.specs.declared.FeeStats.{FeeStats}
+use Rattle.store.specs.World.{World, worldOf, Result}
+use Rattle.process.specs.Post.{resultOf}
+use Rattle.returns.specs.Returns.{invalidated}
+use Rattle.mempool.specs.Start.{sizes, empty, started}
+use Rattle.mempool.specs.Listing.{Row, Listing, topOf}
+use Rattle.mempool.specs.Queries.{containsOf, spendingOf}
+use Rattle.lines.specs.declared.fields.Optional.{Optional}
+use Rattle.lines.specs.declared.fields.Optional.the-variants as optional
+use Rattle.lines.specs.declared.fields.Verdict as read
+use Rattle.lines.specs.declared.read.PoolForm.{PoolForm}
+use Rattle.lines.specs.declared.read.TxForm.{TxForm}
+use Rattle.console.specs.declared.calls.Call.{Call}
+use Rattle.console.specs.declared.calls.Call.the-variants.{Start, Alter, Ask, NotThere}
+use Rattle.console.specs.declared.calls.Change.{Change}
+use Rattle.console.specs.declared.calls.Change.the-variants.{Submit, Invalidate}
+use Rattle.console.specs.declared.calls.Query.{Query}
+use Rattle.console.specs.declared.calls.Query.the-variants.{Listing as Lists, Len, Contains, Spending, Charges, Written}
+use Rattle.replies.specs.Replies.{numbered, named, listed, replacedText, pooledText, rowOf, spenderText, chargesText}
+use Rattle.console.specs.declared.Kept.{Kept}
+
+-- ---- texts
+
+-- `(ready)`, `(no pool)`, `(verdict needed)`, `(yes)`, `(no)`, `(none)`
+abbrev pub wReady : List ℕ
+wReady = 40 ∷ 114 ∷ 101 ∷ 97 ∷ 100 ∷ 121 ∷ 41 ∷ []
+
+abbrev pub wNoPool : List ℕ
+wNoPool = 40 ∷ 110 ∷ 111 ∷ 32 ∷ 112 ∷ 111 ∷ 111 ∷ 108 ∷ 41 ∷ []
+
+abbrev pub wNeeded : List ℕ
+wNeeded = 40 ∷ 118 ∷ 101 ∷ 114 ∷ 100 ∷ 105 ∷ 99 ∷ 116 ∷ 32 ∷ 110 ∷ 101 ∷ 101 ∷ 100 ∷ 101 ∷ 100 ∷ 41 ∷ []
+
+abbrev pub wYes : List ℕ
+wYes = 40 ∷ 121 ∷ 101 ∷ 115 ∷ 41 ∷ []
+
+abbrev pub wNo : List ℕ
+wNo = 40 ∷ 110 ∷ 111 ∷ 41 ∷ []
+
+abbrev pub wNone : List ℕ
+wNone = 40 ∷ 110 ∷ 111 ∷ 110 ∷ 101 ∷ 41 ∷ []
+
+-- `(refused `, `(unread `, `(len `, `(accepted `, `(invalidated `, `(ids`
+abbrev pub wRefused : List ℕ
+wRefused = 40 ∷ 114 ∷ 101 ∷ 102 ∷ 117 ∷ 115 ∷ 101 ∷ 100 ∷ 32 ∷ []
+
+abbrev pub wUnread : List ℕ
+wUnread = 40 ∷ 117 ∷ 110 ∷ 114 ∷ 101 ∷ 97 ∷ 100 ∷ 32 ∷ []
+
+abbrev pub wLen : List ℕ
+wLen = 40 ∷ 108 ∷ 101 ∷ 110 ∷ 32 ∷ []
+
+abbrev pub wAccepted : List ℕ
+wAccepted = 40 ∷ 97 ∷ 99 ∷ 99 ∷ 101 ∷ 112 ∷ 116 ∷ 101 ∷ 100 ∷ 32 ∷ []
+
+abbrev pub wInvalidated : List ℕ
+wInvalidated = 40 ∷ 105 ∷ 110 ∷ 118 ∷ 97 ∷ 108 ∷ 105 ∷ 100 ∷ 97 ∷ 116 ∷ 101 ∷ 100 ∷ 32 ∷ []
+
+abbrev pub wIds : List ℕ
+wIds = 40 ∷ 105 ∷ 100 ∷ 115 ∷ []
+
+-- "A refusal prints `(refused N)`, N its number"; "an unreadable line .. prints `(unread N)`, N its number from 1"
+unfoldable pub refusedText : ℕ → List ℕ
+refusedText n = numbered wRefused n
+
+unfoldable pub unreadText : ℕ → List ℕ
+unreadText n = numbered wUnread n
+
+-- a submission of the id x, whose call wrote the ids ks; what is no outcome of one prints nothing
+unfoldable pub txText : Outcome → ℕ → List ℕ → List ℕ
+txText done x ks = named wAccepted x
+txText (wrote k) x ks = replacedText x ks
+txText needed x ks = wNeeded
+txText (refused n k) x ks = refusedText n
+txText (candidate k) x ks = []
+txText (ended n) x ks = []
+txText (missing k) x ks = []
+txText (invalid k) x ks = []
+txText (valid k) x ks = []
+txText (number n) x ks = []
+txText (said b) x ks = []
+txText (entry k w b) x ks = []
+txText none x ks = []
+
+-- how many ids an outcome says were written
+unfoldable pub writtenIn : Outcome → ℕ
+writtenIn (refused n k) = k
+writtenIn (wrote k) = k
+writtenIn done = 0
+writtenIn needed = 0
+writtenIn (candidate k) = 0
+writtenIn (ended n) = 0
+writtenIn (missing k) = 0
+writtenIn (invalid k) = 0
+writtenIn (valid k) = 0
+writtenIn (number n) = 0
+writtenIn (said b) = 0
+writtenIn (entry k w b) = 0
+writtenIn none = 0
+
+-- a call that writes no ids and answers with the id x, behind its own head
+unfoldable pub doneText : List ℕ → Outcome → ℕ → List ℕ
+doneText head done x = named head x
+doneText head (refused n k) x = refusedText n
+doneText head (wrote k) x = []
+doneText head needed x = []
+doneText head (candidate k) x = []
+doneText head (ended n) x = []
+doneText head (missing k) x = []
+doneText head (invalid k) x = []
+doneText head (valid k) x = []
+doneText head (number n) x = []
+doneText head (said b) x = []
+doneText head (entry k w b) x = []
+doneText head none x = []
+
+-- a query's answer
+abbrev yesNo : Bool → List ℕ
+yesNo true = wYes
+yesNo false = wNo
+
+unfoldable pub queryText : Outcome → List ℕ
+queryText (said b) = yesNo b
+queryText (entry k w b) = spenderText (rowOf k w b)
+queryText none = wNone
+queryText (refused n k) = refusedText n
+queryText done = []
+queryText (wrote k) = []
+queryText needed = []
+queryText (candidate k) = []
+queryText (ended n) = []
+queryText (missing k) = []
+queryText (invalid k) = []
+queryText (valid k) = []
+queryText (number n) = []
+
+unfoldable pub listingText : Listing → List ℕ
+listingText t = go (t .outcome)
+  where
+    go : Outcome → List ℕ
+    go (wrote k) = pooledText (t .rows)
+    go (refused n k) = refusedText n
+    go done = []
+    go needed = []
+    go (candidate k) = []
+    go (ended n) = []
+    go (missing k) = []
+    go (invalid k) = []
+    go (valid k) = []
+    go (number n) = []
+    go (said b) = []
+    go (entry k w b) = []
+    go none = []
+
+-- ---- what a form's fields stand for
+
+-- "`pool` has the settings in the order of `MempoolConfig`, without the reward delay"
+abbrev pub strategyOf : ℕ → FeeStrategy
+strategyOf byte = pick (eqb byte 0) FeePerCycle FeePerByte
+
+unfoldable pub configOf : PoolForm → MempoolConfig
+configOf p =
+    record {
+      capacity = p .capacity;
+      «min_fee» = p .«min_fee»;
+      «fee_strategy» = strategyOf (p .byte);
+      «cleanup_interval» = p .interval;
+      «rebroadcast_count» = p .rebroadcast;
+      «invalidation_ttl» = p .ttl;
+      «invalidation_capacity» = p .cache;
+      «cost_per_block» = p .«block_limit»;
+      «cost_per_peer_per_block» = p .«peer_limit»;
+    }
+
+unfoldable pub sourceOf : Optional → Source
+sourceOf (optional.Some p) = Peer p
+sourceOf optional.Absent = Local
+
+unfoldable pub verdictOf : read.Verdict → Verdict
+verdictOf (read.the-variants.Valid c) = Valid c
+verdictOf read.the-variants.Invalid = Invalid
+verdictOf read.the-variants.NoVerdict = Absent
+
+unfoldable pub submissionOf : TxForm → Submission
+submissionOf t =
+    record {
+      time = t .time;
+      id = t .id;
+      size = t .size;
+      preheader = t .preheader;
+      source = sourceOf (t .peer);
+      verdict = verdictOf (t .verdict);
+    }
+
+-- ---- what is held before the first `(ready)`
+
+abbrev pub noConfig : MempoolConfig
+noConfig =
+    record {
+      capacity = 0;
+      «min_fee» = 0;
+      «fee_strategy» = FeePerByte;
+      «cleanup_interval» = 0;
+      «rebroadcast_count» = 0;
+      «invalidation_ttl» = 0;
+      «invalidation_capacity» = 0;
+      «cost_per_block» = 0;
+      «cost_per_peer_per_block» = 0;
+    }
+
+abbrev pub nothing : Kept
+nothing = record { ready = false; mempool = empty noConfig; stats = fresh 0; written = 0 }
+
+-- ---- what a line comes to
+
+-- the text printed, and what is held then: whether there is a pool, its settings, pass, store and statistics, and the ids that the last changing
+-- call wrote
+pub record Line : Type 0 where
+  pub text : List ℕ
+  pub ready : Bool
+  pub config : MempoolConfig
+  pub pass : Pass
+  pub world : World
+  pub stats : FeeStats
+  pub written : List ℕ
+
+-- the words that poolrun lends: entries, boxes, cache, peers, and the answer buffer of the changing calls
+module _ (e b k p a : List ℕ) (h : Kept) where
+  -- nothing changes
+  unfoldable pub same : List ℕ → Line
+  same t =
+      record {
+        text = t;
+        ready = h .ready;
+        config = h .mempool .config;
+        pass = h .mempool .pass;
+        world = worldOf e b k p (h .mempool);
+        stats = h .stats;
+        written = idsTo 4 a (h .written);
+      }
+
+  -- "a later accepted `pool` starts afresh", "its start's time is 0"; a refused one leaves the pool that was. It is a changing call that writes no ids.
+  unfoldable pub startedLine : StartOutcome → Line
+  startedLine (Ready st) =
+      record {
+        text = wReady;
+        ready = true;
+        config = st .config;
+        pass = st .pass;
+        world = worldOf e b k p st;
+        stats = fresh 0;
+        written = [];
+      }
+  startedLine (NotStarted n) =
+      record {
+        text = refusedText n;
+        ready = h .ready;
+        config = h .mempool .config;
+        pass = h .mempool .pass;
+        world = worldOf e b k p (h .mempool);
+        stats = h .stats;
+        written = [];
+      }
+
+  -- a submission of the id x: what `process` is to come to. Of the ids that it wrote, those that the answer buffer has places for are held.
+  unfoldable pub processedLine : Result → ℕ → Line
+  processedLine s x =
+      record {
+        text = txText (s .outcome) x (take (countOf 4 a) (s .written));
+        ready = true;
+        config = h .mempool .config;
+        pass = h .mempool .pass;
+        world = s .world;
+        stats = h .stats;
+        written = take (countOf 4 a) (s .written);
+      }
+
+  -- what a call is to come to that writes no ids and leaves the statistics
+  unfoldable pub doneLine : List ℕ → Result → ℕ → Line
+  doneLine head s x =
+      record {
+        text = doneText head (s .outcome) x;
+        ready = true;
+        config = h .mempool .config;
+        pass = h .mempool .pass;
+        world = s .world;
+        stats = h .stats;
+        written = [];
+      }
+
+  -- a changing call, of a pool that is there; f and s are the words of the form's lists, as far as its numbers of words go
+  unfoldable pub altered : List ℕ → List ℕ → Change → Line
+  altered f s (Submit t) = processedLine (resultOf e b k p a (h .mempool) (submissionOf t) (take (t .inputs) f) (take (t .outputs) s)) (idOf (t .id))
+  altered f s (Invalidate time x) = doneLine wInvalidated (invalidated (h .mempool) (worldOf e b k p (h .mempool)) time (idOf x)) (idOf x)
+
+  -- a query's text; `room`: the words of the buffer that lists go to
+  unfoldable pub asked : ℕ → Query → List ℕ
+  asked room (Lists limit) = listingText (topOf e (h .mempool) room limit)
+  asked room Len = numbered wLen (h .mempool .counts .pooled)
+  asked room (Contains time x) = queryText (containsOf e k (h .mempool) time (idOf x))
+  asked room (Spending x) = queryText (spendingOf e b (h .mempool) (idOf x))
+  asked room Charges = chargesText (h .mempool .sums .«interblock_cost») (flatPeers p (h .mempool .sums .peers))
+  asked room Written = listed wIds (idsTo 4 a (h .written))
+
+  -- "Before the first `(ready)` any form but `pool` prints `(no pool)`"; an unreadable line is unreadable then too. n is the line's number.
+  unfoldable pub lineOf : ℕ → ℕ → List ℕ → List ℕ → Call → Line
+  lineOf n room f s (Start g) = startedLine (started (sizes (entriesRoom e) (boxesRoom b) (cacheRoom k) (length p / 2)) (configOf g))
+  lineOf n room f s (Alter g) = pick (h .ready) (altered f s g) (same wNoPool)
+  lineOf n room f s (Ask q) = same (pick (h .ready) (asked room q) wNoPool)
+  lineOf n room f s NotThere = same (unreadText n)

@@ -1,0 +1,347 @@
+-- Laws of a line: how many ids a submission wrote, what of them stands in the answer buffer, and that a start fits.
+use Prim.Native.Nat.{ℕ, zero, suc, _+_, _/_, _≤_, _<_, min, max}
+use mathlib.Core.Path.{_≡_, refl, sym, ap, _∙_, subst}
+use mathlib.Core.Bool.{Bool, true, false, not}
+use mathlib.Core.List.{List, [], _∷_, _++_, append-assoc, append-nil}
+use native.Mathlib.Nat.{add-zero, add-suc, suc-add}
+use native.Mathlib.Omega.{arith}
+use lib.Dec.{eqb, leb, ltb}
+use borrow.Author.Tests.{eqb-true, eqb-false, ltb-false, le-leb}
+use Rattle.words.specs.Tables.{of-none}
+use Rattle.pool.specs.Laws.{fits-true}
+use lib.ListN.{length, take, set, length-set, length-append, length-take}
+use lib.Seq.{sets, set-out, take-all, take-suc-set, take-append-seam}
+use Rattle.words.specs.Lists.{pick}
+use Rattle.words.specs.Lists.{yes as met, no as unmet}
+use Rattle.pool_types.specs.declared.MempoolConfig.{MempoolConfig}
+use Rattle.pool_types.specs.declared.Mempool.{Mempool}
+use Rattle.pool_types.specs.declared.Submission.{Submission}
+use Rattle.pool_types.specs.declared.Verdict.{Verdict}
+use Rattle.pool_types.specs.declared.Verdict.the-variants.{Valid, Invalid, Absent}
+use Rattle.pool_types.specs.declared.StartOutcome.the-variants.{Ready, NotStarted}
+use Rattle.pool_types.specs.Outcomes.{Outcome, refused, done, wrote, processedOf}
+use Rattle.entries.specs.Entries.{Entry}
+use Rattle.boxes.specs.Flat.{countOf, idsTo, idsOf, ids}
+use Rattle.pool.specs.Pool.{Tables, removeAll, evicted, fitsTest}
+use Rattle.answers.specs.Answers.{Wrote}
+use Rattle.boxes.specs.Records.{index, conflicts}
+use Rattle.arguments.specs.Arguments.{feeOf}
+use Rattle.checks.specs.Checks.{refusalOf}
+use Rattle.admit.specs.Admit.{Admitted, settled, seated, contested, admitSpec, crowded, loses, joined, newcomer, baseOf}
+use Rattle.store.specs.World.{World, worldOf, Result, unchanged}
+use Rattle.process.specs.Process.{Limits, standingOf, judged, processed}
+use Rattle.entries.specs.Layout.{entriesRoom}
+use Rattle.boxes.specs.Layout.{boxesRoom}
+use Rattle.expiring_cache.specs.Layout.{cacheRoom, ok-room}
+use Rattle.forms.specs.Nums.{Prints}
+use Rattle.stats.specs.Stats.{fresh}
+use Rattle.stats.specs.declared.FeeStats.{FeeStats}
+use Rattle.store.specs.Fits.{Fits, goes-on, un-not}
+use Rattle.process.specs.Post.{Post, resultOf}
+use Rattle.process.specs.declared.Processed.{Processed}
+use Rattle.returns.specs.Returns.{invalidated}
+use Rattle.returns.specs.Post.{Meets}
+use Rattle.mempool.specs.Start.{Sizes, sizes, within, sized, settled as settles, empty, started}
+use Rattle.words.specs.Ids.{idOf}
+use Rattle.words.specs.declared.ids.Id.{Id}
+use Rattle.lines.specs.declared.read.PoolForm.{PoolForm}
+use Rattle.lines.specs.declared.read.TxForm.{TxForm}
+use Rattle.console.specs.declared.calls.Call.{Call}
+use Rattle.console.specs.declared.calls.Call.the-variants.{Start, Alter, Ask, NotThere}
+use Rattle.console.specs.declared.calls.Change.{Change}
+use Rattle.console.specs.declared.calls.Change.the-variants.{Submit, Invalidate}
+use Rattle.console.specs.declared.calls.Query.{Query}
+use Rattle.console.specs.Console.{Line, wReady, wNoPool, refusedText, unreadText, wInvalidated, txText, doneText, writtenIn, configOf, noConfig, nothing, submissionOf, processedLine, doneLine, altered, startedLine, same, asked, lineOf}
+use Rattle.console.specs.Texts.{prints-as}
+use Rattle.console.specs.After.{Holds, After, ToldOf}
+use Rattle.console.specs.declared.Kept.{Kept}
+use Rattle.console.specs.declared.Told.{Told}
+
+-- ---- a submission's outcome says how many ids it wrote
+
+record SaysAdmitted (d : Admitted) : Type 0 where
+  is : writtenIn (d .outcome) ≡ length (d .written)
+
+record SaysResult (r : Result) : Type 0 where
+  is : writtenIn (r .outcome) ≡ length (r .written)
+
+picked : (t : Bool) (x y : Admitted) → SaysAdmitted x → SaysAdmitted y → SaysAdmitted (pick t x y)
+picked true x y p q = p
+picked false x y p q = q
+
+stopped : (n : ℕ) (t : Tables) → SaysAdmitted (record { outcome = refused n 0; tables = t; written = [] })
+unfolding writtenIn
+stopped n t = record { is = refl }
+
+lost : (ks : List ℕ) (t : Tables) → SaysAdmitted (record { outcome = refused 29 (length ks); tables = t; written = ks })
+unfolding writtenIn
+lost ks t = record { is = refl }
+
+says-settled : (capacity : ℕ) (ks : List ℕ) (t : Tables) → SaysAdmitted (settled capacity ks t)
+unfolding settled writtenIn
+says-settled capacity [] t = record { is = refl }
+says-settled capacity (k ∷ ks) t = record { is = sym (length-append (k ∷ ks) (evicted capacity t)) }
+
+module _ (visits capacity : ℕ) (e : Entry) (ins outs : List ℕ) where
+  says-seated : (ks : List ℕ) (t : Tables) → SaysAdmitted (seated visits capacity e ins outs ks t)
+  unfolding seated
+  says-seated ks t =
+      picked (crowded capacity (e .base) (t .entries)) (record { outcome = refused 30 0; tables = t; written = [] }) (settled capacity ks (joined visits e ins outs t))
+      (stopped 30 t) (says-settled capacity ks (joined visits e ins outs t))
+
+  says-contested : (ks : List ℕ) (t : Tables) → SaysAdmitted (contested visits capacity e ins outs ks t)
+  unfolding contested
+  says-contested ks t =
+      picked (loses (e .base) ks (t .entries)) (record { outcome = refused 29 (length ks); tables = t; written = ks }) (seated visits capacity e ins outs ks (removeAll ks t))
+      (lost ks t) (says-seated ks (removeAll ks t))
+
+says-admitted : (visits : ℕ) (g : MempoolConfig) (t : Tables) (a : Submission) (c : ℕ) (ins outs : List ℕ) → SaysAdmitted (admitSpec visits g t a c ins outs)
+unfolding admitSpec
+says-admitted visits g t a c ins outs =
+    picked (ltb (feeOf outs) (g .«min_fee»)) (record { outcome = refused 10 0; tables = t; written = [] }) _
+    (stopped 10 t) (says-contested visits (g .capacity) (newcomer a c (baseOf g a c outs) ins outs) ins outs (conflicts (index false (t .boxes)) (idsOf 5 ins)) t)
+
+says-judged : (visits : ℕ) (st : Mempool) (w : World) (a : Submission) (ins outs : List ℕ) (v : Verdict) → SaysResult (judged visits st w a ins outs v)
+unfolding judged writtenIn
+says-judged visits st w a ins outs Absent = record { is = refl }
+says-judged visits st w a ins outs Invalid = record { is = refl }
+says-judged visits st w a ins outs (Valid c) = let h = says-admitted visits (st .config) (w .tables) a c ins outs in record { is = h .is }
+
+unless : (n : ℕ) (r : Result) (w : World) (t : Bool) → SaysResult r → SaysResult (pick t r (unchanged (refused n 0) w))
+unfolding writtenIn
+unless n r w true q = q
+unless n r w false q = record { is = refl }
+
+pub says-processed : (m : Limits) (st : Mempool) (w : World) (room : ℕ) (a : Submission) (ins outs : List ℕ) → writtenIn (processed m st w room a ins outs .outcome) ≡ length (processed m st w room a ins outs .written)
+unfolding processed
+says-processed m st w room a ins outs =
+    let n = refusalOf (m .inputs) (m .entries) (m .boxes) st room (w .tables) (w .cache) (standingOf (a .source) (w .peers)) a ins outs in
+    (unless n (judged (m .visits) st w a ins outs (a .verdict)) w (eqb n 0) (says-judged (m .visits) st w a ins outs (a .verdict))) .is
+
+-- ---- of the ids written, the buffer holds those that it has places for
+
+sets-out : (ks l : List ℕ) (i : ℕ) → length l ≤ i → sets l i ks ≡ l
+sets-out [] l i h = refl
+sets-out (k ∷ ks) l i h = rw (set-out l i k h) (sets-out ks l (suc i) (omega arith))
+
+take-sets : (ks l : List ℕ) (i : ℕ) → i ≤ length l → take (min (i + length ks) (length l)) (sets l i ks) ≡ take (length l) (take i l ++ ks)
+take-sets [] l i h =
+    let m : min (i + 0) (length l) ≡ i = omega arith in
+    rw (m, append-nil (take i l)) (sym (take-all (length l) (take i l) (omega (arith, length-take i l))))
+take-sets (k ∷ ks) l i h = go (λ z. take-sets ks (set l i k) (suc i) z) (native.Mathlib.Decide.decLe (suc i) (length l))
+  where
+    go : (suc i ≤ length (set l i k) → take (min (suc i + length ks) (length (set l i k))) (sets (set l i k) (suc i) ks) ≡ take (length (set l i k)) (take (suc i) (set l i k) ++ ks))
+        → Dec (suc i ≤ length l) → take (min (i + suc (length ks)) (length l)) (sets (set l i k) (suc i) ks) ≡ take (length l) (take i l ++ (k ∷ ks))
+    go more (yes p) =
+        let a : i + suc (length ks) ≡ suc i + length ks = add-suc i (length ks) ∙ sym (suc-add i (length ks)) in
+        let r = more (omega (arith, length-set l i k)) in
+        rw a (rw (length-set l i k, take-suc-set l i k p, append-assoc (take i l) (k ∷ []) ks) at r)
+    go more (no p) =
+        let q : length l ≡ i = omega (arith, p) in
+        let m : min (i + suc (length ks)) (length l) ≡ length l = omega (arith, p) in
+        rw (m, set-out l i k (omega (arith, p)), sets-out ks l (suc i) (omega (arith, p)), take-all (length l) l (omega arith), take-all i l (omega (arith, q)))
+        (sym (take-append-seam l (k ∷ ks)))
+
+pub shown : (l m ks : List ℕ) (n : ℕ) → Wrote l m 0 ks → n ≡ length ks → idsTo 4 m (min n (countOf 4 l)) ≡ take (countOf 4 l) ks
+shown l m ks n w q =
+    let c : countOf 4 m ≡ countOf 4 l = ap (λ (x : ℕ). x / 4) (w .kept) in
+    let z : length (idsOf 4 l) ≡ countOf 4 l = ids 4 .len l (countOf 4 l) in
+    let f : take (min n (countOf 4 l)) (idsOf 4 m) ≡ idsTo 4 m (min n (countOf 4 l)) = ids 4 .first m (min n (countOf 4 l)) (countOf 4 m) (omega (arith, c)) in
+    let s = take-sets ks (idsOf 4 l) 0 (omega arith) in
+    let y : 0 + length ks ≡ length ks = omega arith in
+    sym f ∙ rw (w .ids, q) (rw (y, z) at s)
+
+-- a part of a list that is longer than the list is the list
+pub take-min : (n m : ℕ) (l : List ℕ) → m ≡ min n (length l) → take m l ≡ take n l
+take-min n m l q = rw q (go (native.Mathlib.Decide.decLe n (length l)))
+  where
+    go : Dec (n ≤ length l) → take (min n (length l)) l ≡ take n l
+    go (yes p) = let z : min n (length l) ≡ n = omega arith in rw z
+    go (no p) = let z : min n (length l) ≡ length l = omega (arith, p) in rw z (take-all (length l) l (omega arith) ∙ sym (take-all n l (omega (arith, p))))
+
+-- ---- a submission's line
+
+module _ (e b k p a e' b' k' p' a' : List ℕ) (h : Kept) (r : Processed) (s : Result) (d : Post (h .mempool) r e' b' k' p' a a' s) (y : writtenIn (s .outcome) ≡ length (s .written))
+    (x : ℕ) (o₀ o : List ℕ) (t : Told) (w : ToldOf a' (h .stats) r x o₀ o t) where
+  count-is : t .kept .written ≡ min (length (s .written)) (countOf 4 a)
+  count-is = w .written ∙ rw (d .outcome, y, d .wrote .kept)
+
+  held : idsTo 4 a' (t .kept .written) ≡ take (countOf 4 a) (s .written)
+  held = rw count-is (shown a a' (s .written) (length (s .written)) (d .wrote) refl)
+
+  pub after-processed : After e' b' k' p' a' o₀ o t (processedLine e b k p a h s x)
+  unfolding processedLine
+  after-processed =
+      record {
+        holds = record { fits = rw (w .mempool) (d .fits); written = omega (arith, w .written) };
+        prints = prints-as (rw (d .outcome, held)) (w .prints);
+        ready = w .ready;
+        config = rw (w .mempool) (d .config);
+        pass = rw (w .mempool) (d .pass);
+        world = rw (w .mempool) (d .world);
+        stats = w .stats;
+        written = held;
+      }
+
+pub cut-is : (r a : ℕ) (l : List ℕ) → r ≡ min a (length l) → r ≡ length (take r l)
+cut-is r a l q = omega (arith, length-take r l)
+
+-- the lists are cut where the form's numbers of words say, or where the words end
+pub after-cut : (e b k p a e' b' k' p' a' o₀ o : List ℕ) (h : Kept) (t : Told) (u : Submission) (f s : List ℕ) (x i j n m : ℕ) → n ≡ min i (length f) → m ≡ min j (length s)
+    → After e' b' k' p' a' o₀ o t (processedLine e b k p a h (resultOf e b k p a (h .mempool) u (take n f) (take m s)) x)
+    → After e' b' k' p' a' o₀ o t (processedLine e b k p a h (resultOf e b k p a (h .mempool) u (take i f) (take j s)) x)
+after-cut e b k p a e' b' k' p' a' o₀ o h t u f s x i j n m v w q = rw (← take-min i n f v, ← take-min j m s w) q
+
+-- ---- the line of a call that writes no ids
+
+pub after-done : (e b k p a e' b' k' p' o₀ o : List ℕ) (h : Kept) (r : Mempool) (n : Outcome) (s : Result) (head : List ℕ) (x len : ℕ) → Meets (h .mempool) r n e' b' k' p' s → Prints (doneText head n x) 0 o₀ o len
+    → After e' b' k' p' a o₀ o (record { kept = record { ready = true; mempool = r; stats = h .stats; written = 0 }; len = len }) (doneLine e b k p a h head s x)
+unfolding doneLine
+after-done e b k p a e' b' k' p' o₀ o h r n s head x len d t =
+    record {
+      holds = record { fits = d .fits; written = omega arith };
+      prints = prints-as (ap (λ (z : Outcome). doneText head z x) (d .outcome)) t;
+      ready = refl;
+      config = d .config;
+      pass = d .pass;
+      world = d .world;
+      stats = refl;
+      written = of-none (ids 4) a;
+    }
+
+-- ---- a changing call's line, call by call
+
+module _ (e b k p a : List ℕ) (h : Kept) (f s : List ℕ) (g : Change) where
+  pub alter-submitted : (t : TxForm) → g ≡ Submit t
+      → altered e b k p a h f s g ≡ processedLine e b k p a h (resultOf e b k p a (h .mempool) (submissionOf t) (take (t .inputs) f) (take (t .outputs) s)) (idOf (t .id))
+  unfolding altered
+  alter-submitted t q = rw q
+
+  pub alter-invalidated : (time : ℕ) (x : Id) → g ≡ Invalidate time x
+      → altered e b k p a h f s g ≡ doneLine e b k p a h wInvalidated (invalidated (h .mempool) (worldOf e b k p (h .mempool)) time (idOf x)) (idOf x)
+  unfolding altered
+  alter-invalidated time x q = rw q
+
+-- ---- a start's line
+
+-- no count is too large for no words
+fits-none : (e b : List ℕ) → fitsTest e b (record { pooled = 0; records = 0 }) ≡ true
+fits-none e b = rw (le-leb 0 (entriesRoom e) (omega arith)) (le-leb 0 (boxesRoom b) (omega arith))
+
+pub fits-new : (e b k p : List ℕ) (c : MempoolConfig) → max (c .«invalidation_capacity») 1 ≤ cacheRoom k → 512 ≤ length p → Fits e b k p (empty c)
+unfolding empty
+fits-new e b k p c y z =
+    record {
+      tests = record { pool = fits-true e b _ (fits-none e b); cache = ok-room k 0 (omega arith) };
+      keeps = y;
+      words = z;
+      used = omega arith;
+    }
+
+-- before the first start
+pub holds-nothing : (e b k p a : List ℕ) → 5 ≤ length k → 512 ≤ length p → Holds e b k p a nothing
+unfolding cacheRoom
+holds-nothing e b k p a y z = record { fits = fits-new e b k p noConfig (omega arith) z; written = omega arith }
+
+module _ (e b k p : List ℕ) (c : MempoolConfig) where
+  abbrev sizesHere : Sizes
+  sizesHere = sizes (entriesRoom e) (boxesRoom b) (cacheRoom k) (length p / 2)
+
+  -- the sizes that were tested, as far as they are needed
+  within-one : (n most : ℕ) → within n most ≡ true → 1 ≤ n
+  within-one n most h = go (eqb n 0) refl h
+    where
+      go : (t : Bool) → eqb n 0 ≡ t → pick t false (leb n most) ≡ true → 1 ≤ n
+      go true q z = let y : _≡_ {A = ℕ} 0 1 = cc in absurd (omega arith)
+      go false q z = let y = eqb-false n 0 q in omega (arith, y)
+
+  sized-needs : sized sizesHere ≡ true → (1 ≤ cacheRoom k) × (512 ≤ length p)
+  unfolding sized
+  sized-needs h =
+      let q = goes-on (not (within (entriesRoom e) 4096)) _ h in
+      let r = goes-on (not (within (boxesRoom b) 65536)) _ (q .1) in
+      let s = goes-on (not (within (cacheRoom k) 10000)) _ (r .1) in
+      let z = eqb-true (length p / 2) 256 (s .1) in
+      (within-one (cacheRoom k) 10000 (un-not _ (s .0)), omega (arith, z))
+
+  settled-needs : settles sizesHere c ≡ true → c .«invalidation_capacity» ≤ cacheRoom k
+  unfolding settles
+  settled-needs h =
+      let q = goes-on (leb (entriesRoom e) (c .capacity)) _ h in
+      let r = goes-on (ltb (cacheRoom k) (c .«invalidation_capacity»)) _ (q .1) in
+      ltb-false _ _ (r .0)
+
+  fits-empty : sized sizesHere ≡ true → settles sizesHere c ≡ true → Fits e b k p (empty c)
+  fits-empty t u = let z = sized-needs t in let y = settled-needs u in fits-new e b k p c (omega (arith, z .0, y)) (z .1)
+
+  pub fits-started : (st : Mempool) → started sizesHere c ≡ Ready st → Fits e b k p st
+  unfolding started
+  fits-started st h = go (sized sizesHere) (settles sizesHere c) refl refl h
+    where
+      go : (t u : Bool) → sized sizesHere ≡ t → settles sizesHere c ≡ u → pick t (pick u (Ready (empty c)) (NotStarted 6)) (NotStarted 6) ≡ Ready st → Fits e b k p st
+      go true true q r z = let y : empty c ≡ st = cc in subst (λ (s : Mempool). Fits e b k p s) y (fits-empty q r)
+      go true false q r z = let y : _≡_ {A = ℕ} 0 1 = cc in absurd (omega arith)
+      go false u q r z = let y : _≡_ {A = ℕ} 0 1 = cc in absurd (omega arith)
+
+  module _ (a o₀ o : List ℕ) (h : Kept) (len : ℕ) (f : Holds e b k p a h) where
+    pub after-ready : (st : Mempool) (s : FeeStats) → started sizesHere c ≡ Ready st → s ≡ fresh 0 → Prints wReady 0 o₀ o len
+        → After e b k p a o₀ o (record { kept = record { ready = true; mempool = st; stats = s; written = 0 }; len = len }) (startedLine e b k p a h (started sizesHere c))
+    unfolding startedLine
+    after-ready st s q z t =
+        rw q
+        (record {
+          holds = record { fits = fits-started st q; written = omega arith };
+          prints = t;
+          ready = refl;
+          config = refl;
+          pass = refl;
+          world = refl;
+          stats = z;
+          written = of-none (ids 4) a;
+        })
+
+    pub after-refused : (n : ℕ) → started sizesHere c ≡ NotStarted n → Prints (refusedText n) 0 o₀ o len
+        → After e b k p a o₀ o (record { kept = record { ready = h .ready; mempool = h .mempool; stats = h .stats; written = 0 }; len = len }) (startedLine e b k p a h (started sizesHere c))
+    unfolding startedLine
+    after-refused n q t =
+        rw q
+        (record {
+          holds = record { fits = f .fits; written = omega arith };
+          prints = t;
+          ready = refl;
+          config = refl;
+          pass = refl;
+          world = refl;
+          stats = refl;
+          written = of-none (ids 4) a;
+        })
+
+-- ---- a line, call by call
+
+module _ (e b k p a : List ℕ) (h : Kept) (n room : ℕ) (f s : List ℕ) (call : Call) where
+  pub line-started : (g : PoolForm) → call ≡ Start g → lineOf e b k p a h n room f s call ≡ startedLine e b k p a h (started (sizes (entriesRoom e) (boxesRoom b) (cacheRoom k) (length p / 2)) (configOf g))
+  unfolding lineOf
+  line-started g q = rw q
+
+  pub line-altered : (t : Change) → call ≡ Alter t → h .ready ≡ true → lineOf e b k p a h n room f s call ≡ altered e b k p a h f s t
+  unfolding lineOf
+  line-altered t q z = rw q (met _ _ _ z)
+
+  pub line-unready : (t : Change) → call ≡ Alter t → h .ready ≡ false → lineOf e b k p a h n room f s call ≡ same e b k p a h wNoPool
+  unfolding lineOf
+  line-unready t q z = rw q (unmet _ _ _ z)
+
+  pub line-asked : (t : Query) → call ≡ Ask t → h .ready ≡ true → lineOf e b k p a h n room f s call ≡ same e b k p a h (asked e b k p a h room t)
+  unfolding lineOf
+  line-asked t q z = rw q (ap (same e b k p a h) (met _ _ _ z))
+
+  pub line-unasked : (t : Query) → call ≡ Ask t → h .ready ≡ false → lineOf e b k p a h n room f s call ≡ same e b k p a h wNoPool
+  unfolding lineOf
+  line-unasked t q z = rw q (ap (same e b k p a h) (unmet _ _ _ z))
+
+  pub line-unread : call ≡ NotThere → lineOf e b k p a h n room f s call ≡ same e b k p a h (unreadText n)
+  unfolding lineOf
+  line-unread q = rw q
+
+pub after-as : {e b k p a o₀ o : List ℕ} {t : Told} {m m' : Line} → m' ≡ m → After e b k p a o₀ o t m → After e b k p a o₀ o t m'
+after-as q h = rw q h

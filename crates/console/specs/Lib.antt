@@ -1,0 +1,5 @@
+pub mod Calls
+pub mod Console
+pub mod After
+pub mod Texts
+pub mod Laws

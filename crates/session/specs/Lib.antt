@@ -1,5 +1,0 @@
-pub mod Calls
-pub mod Session
-pub mod After
-pub mod Texts
-pub mod Laws
