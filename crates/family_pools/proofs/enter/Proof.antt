@@ -1,10 +1,10 @@
--- `family_run::enter` is safe: it tests what `insert` requires. Assumes nothing.
+-- `family_pools::enter` is safe: it tests what `insert` requires. Assumes nothing.
 use borrow.Author.Needs.{needs}
 use mathlib.Core.Path.{sym, _∙_}
 use borrow.Author.Tests.{not-false, not-true}
 use Rattle.pool.specs.Laws.{fits-true, room-left}
-use Rattle.family_run.proofs.enter.Statement.{statement}
-use Rattle.family_run.proofs.enter.Tie as tie
+use Rattle.family_pools.proofs.enter.Statement.{statement}
+use Rattle.family_pools.proofs.enter.Tie as tie
 
 fits-requires : tie.Need-fits-requires
 fits-requires c κs = search needs

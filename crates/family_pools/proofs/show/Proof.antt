@@ -1,12 +1,12 @@
--- `family_run::show` is safe: it tests that the counts fit and that the rank is taken. Assumes nothing.
+-- `family_pools::show` is safe: it tests that the counts fit and that the rank is taken. Assumes nothing.
 use borrow.Author.Needs.{needs}
 use native.Mathlib.Omega.{arith}
 use mathlib.Core.Path.{sym, _∙_}
 use borrow.Author.Tests.{not-false}
 use Rattle.entries.specs.Layout.{ok-fewer}
 use Rattle.pool.specs.Laws.{fits-true}
-use Rattle.family_run.proofs.show.Statement.{statement}
-use Rattle.family_run.proofs.show.Tie as tie
+use Rattle.family_pools.proofs.show.Statement.{statement}
+use Rattle.family_pools.proofs.show.Tie as tie
 
 fits-requires : tie.Need-fits-requires
 fits-requires c κs = search needs

@@ -1,9 +1,9 @@
--- `family_run::arrive` is safe: it tests what `propagate_family_weight` requires. Assumes nothing.
+-- `family_pools::arrive` is safe: it tests what `propagate_family_weight` requires. Assumes nothing.
 use borrow.Author.Needs.{needs}
 use mathlib.Core.Path.{sym, _∙_}
 use Rattle.pool.specs.Laws.{fits-true}
-use Rattle.family_run.proofs.arrive.Statement.{statement}
-use Rattle.family_run.proofs.arrive.Tie as tie
+use Rattle.family_pools.proofs.arrive.Statement.{statement}
+use Rattle.family_pools.proofs.arrive.Tie as tie
 
 enter-requires : tie.Need-enter-requires
 enter-requires c κs = search needs

@@ -1,10 +1,10 @@
--- `family_run::in_a_row` is safe and ends: what is left of n falls. Assumes nothing.
+-- `ancestors_run::in_a_row` is safe and ends: what is left of n falls. Assumes nothing.
 use borrow.Author.Needs.{needs}
 use Prim.Native.Nat.{_≤_, _-_}
 use mathlib.Core.Path.{_≡_}
 use lib.ListN.{length}
-use Rattle.family_run.proofs.in_a_row.Statement.{statement}
-use Rattle.family_run.proofs.in_a_row.Tie as tie
+use Rattle.ancestors_run.proofs.in_a_row.Statement.{statement}
+use Rattle.ancestors_run.proofs.in_a_row.Tie as tie
 
 abbrev Inv-loop : tie.InvT-loop
 Inv-loop entries₀ boxes₀ n counts₀ i₀ entries boxes counts i = (length entries ≡ length entries₀) × (length boxes ≡ length boxes₀) × (i ≤ n)

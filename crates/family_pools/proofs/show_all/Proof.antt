@@ -1,8 +1,8 @@
--- `family_run::show_all` is safe and ends: the ranks left fall. Assumes nothing.
+-- `family_pools::show_all` is safe and ends: the ranks left fall. Assumes nothing.
 use borrow.Author.Needs.{needs}
 use Prim.Native.Nat.{_≤_, _-_}
-use Rattle.family_run.proofs.show_all.Statement.{statement}
-use Rattle.family_run.proofs.show_all.Tie as tie
+use Rattle.family_pools.proofs.show_all.Statement.{statement}
+use Rattle.family_pools.proofs.show_all.Tie as tie
 
 abbrev Inv-loop : tie.InvT-loop
 Inv-loop entries boxes counts rank₀ t5 rank = rank ≤ counts .pooled
