@@ -8,10 +8,12 @@ use Rattle.boxes.specs.Flat.{countOf, idsTo}
 use Rattle.forms.specs.Nums.{Prints}
 use Rattle.store.specs.World.{worldOf}
 use Rattle.store.specs.Fits.{Fits}
-use Rattle.pool_types.specs.Outcomes.{processedOf}
+use Rattle.pool_types.specs.Outcomes.{processedOf, blockOf}
 use Rattle.stats.specs.declared.FeeStats.{FeeStats}
 use Rattle.process.specs.declared.Processed.{Processed}
-use Rattle.console.specs.Console.{Line, same, txText, writtenIn}
+use Rattle.blocks.specs.declared.Applied.{Applied}
+use Rattle.replies.specs.Replies.{listed}
+use Rattle.console.specs.Console.{Line, same, txText, wRemoved, orRefused, writtenIn}
 use Rattle.console.specs.declared.Kept.{Kept}
 use Rattle.console.specs.declared.Told.{Told}
 
@@ -27,6 +29,14 @@ pub record ToldOf (a : List ℕ) (s : FeeStats) (d : Processed) (x : ℕ) (o₀ 
   pub stats : t .kept .stats ≡ s
   pub written : t .kept .written ≡ min (writtenIn (processedOf (d .outcome))) (length a / 4)
   pub prints : Prints (txText (processedOf (d .outcome)) x (idsTo 4 a (t .kept .written))) 0 o₀ o (t .len)
+
+-- .. and a block's, with its statistics
+pub record ToldBlock (a : List ℕ) (d : Applied) (o₀ o : List ℕ) (t : Told) : Type 0 where
+  pub ready : t .kept .ready ≡ true
+  pub mempool : t .kept .mempool ≡ d .mempool
+  pub stats : t .kept .stats ≡ d .stats
+  pub written : t .kept .written ≡ min (writtenIn (blockOf (d .outcome))) (length a / 4)
+  pub prints : Prints (orRefused (listed wRemoved (idsTo 4 a (t .kept .written))) (blockOf (d .outcome))) 0 o₀ o (t .len)
 
 pub record After (e b k p a o₀ o : List ℕ) (t : Told) (m : Line) : Type 0 where
   pub holds : Holds e b k p a (t .kept)

@@ -3,7 +3,7 @@
 use Prim.Native.Nat.{ℕ, _/_}
 use mathlib.Core.Path.{_≡_, refl}
 use mathlib.Core.Bool.{Bool, true, false}
-use mathlib.Core.List.{List, [], _∷_}
+use mathlib.Core.List.{List, [], _∷_, map}
 use lib.Dec.{eqb}
 use lib.ListN.{length, take}
 use Rattle.words.specs.Lists.{pick}
@@ -22,6 +22,8 @@ use Rattle.pool_types.specs.declared.Verdict.{Verdict}
 use Rattle.pool_types.specs.declared.Verdict.the-variants.{Valid, Invalid, Absent}
 use Rattle.pool_types.specs.Outcomes.{Outcome, refused, done, wrote, needed, candidate, ended, missing, invalid, valid, number, said, entry, none}
 use Rattle.entries.specs.Layout.{entriesRoom}
+use Rattle.entries.specs.declared.fields.ValidationCost.{ValidationCost}
+use Rattle.entries.specs.declared.fields.ValidationCost.the-variants.{Unmeasured, Measured}
 use Rattle.boxes.specs.Layout.{boxesRoom}
 use Rattle.boxes.specs.Flat.{countOf, idsTo}
 use Rattle.expiring_cache.specs.Layout.{cacheRoom}
@@ -30,7 +32,12 @@ use Rattle.stats.specs.Stats.{fresh}
 use Rattle.stats.specs.declared.FeeStats.{FeeStats}
 use Rattle.store.specs.World.{World, worldOf, Result}
 use Rattle.process.specs.Post.{resultOf}
-use Rattle.returns.specs.Returns.{invalidated}
+use Rattle.returns.specs.Returns.{returned, invalidated}
+use Rattle.returns.specs.declared.UnconfirmedTx.{UnconfirmedTx}
+use Rattle.blocks.specs.Blocks.{BlockResult}
+use Rattle.blocks.specs.Post.{resultOf as blockResult}
+use Rattle.fees.specs.Fees as fees
+use Rattle.fees.specs.Fees.{Bin, bin, recommended, expectedWait, histogramOf}
 use Rattle.mempool.specs.Start.{sizes, empty, started}
 use Rattle.mempool.specs.Listing.{Row, Listing, topOf}
 use Rattle.mempool.specs.Queries.{containsOf, spendingOf}
@@ -39,13 +46,16 @@ use Rattle.lines.specs.declared.fields.Optional.the-variants as optional
 use Rattle.lines.specs.declared.fields.Verdict as read
 use Rattle.lines.specs.declared.read.PoolForm.{PoolForm}
 use Rattle.lines.specs.declared.read.TxForm.{TxForm}
+use Rattle.lines.specs.declared.read.ReturnForm.{ReturnForm}
 use Rattle.console.specs.declared.calls.Call.{Call}
 use Rattle.console.specs.declared.calls.Call.the-variants.{Start, Alter, Ask, NotThere}
 use Rattle.console.specs.declared.calls.Change.{Change}
-use Rattle.console.specs.declared.calls.Change.the-variants.{Submit, Invalidate}
+use Rattle.console.specs.declared.calls.Change.the-variants.{Submit, Return, Block, Invalidate}
+use Rattle.console.specs.Calls.{wordsOf, lacksPool}
 use Rattle.console.specs.declared.calls.Query.{Query}
-use Rattle.console.specs.declared.calls.Query.the-variants.{Listing as Lists, Len, Contains, Spending, Charges, Written}
-use Rattle.replies.specs.Replies.{numbered, named, listed, replacedText, pooledText, rowOf, spenderText, chargesText}
+use Rattle.console.specs.declared.calls.Query.the-variants.{Listing as Lists, Len, Contains, Spending, Fee, Wait, Histogram, Charges, Written}
+use Rattle.forms.specs.Nums.{numeral, digitByte}
+use Rattle.replies.specs.Replies.{numbered, named, listed, replacedText, pooledText, rowOf, spenderText, Pair, pairText, chargesText, binsText}
 use Rattle.console.specs.declared.Kept.{Kept}
 
 -- ---- texts
@@ -69,7 +79,7 @@ wNo = 40 ∷ 110 ∷ 111 ∷ 41 ∷ []
 abbrev pub wNone : List ℕ
 wNone = 40 ∷ 110 ∷ 111 ∷ 110 ∷ 101 ∷ 41 ∷ []
 
--- `(refused `, `(unread `, `(len `, `(accepted `, `(invalidated `, `(ids`
+-- `(refused `, `(unread `, `(len `, `(fee `, `(wait `, `(accepted `, `(returned `, `(invalidated `, `(removed`, `(ids`
 abbrev pub wRefused : List ℕ
 wRefused = 40 ∷ 114 ∷ 101 ∷ 102 ∷ 117 ∷ 115 ∷ 101 ∷ 100 ∷ 32 ∷ []
 
@@ -79,11 +89,23 @@ wUnread = 40 ∷ 117 ∷ 110 ∷ 114 ∷ 101 ∷ 97 ∷ 100 ∷ 32 ∷ []
 abbrev pub wLen : List ℕ
 wLen = 40 ∷ 108 ∷ 101 ∷ 110 ∷ 32 ∷ []
 
+abbrev pub wFee : List ℕ
+wFee = 40 ∷ 102 ∷ 101 ∷ 101 ∷ 32 ∷ []
+
+abbrev pub wWait : List ℕ
+wWait = 40 ∷ 119 ∷ 97 ∷ 105 ∷ 116 ∷ 32 ∷ []
+
 abbrev pub wAccepted : List ℕ
 wAccepted = 40 ∷ 97 ∷ 99 ∷ 99 ∷ 101 ∷ 112 ∷ 116 ∷ 101 ∷ 100 ∷ 32 ∷ []
 
+abbrev pub wReturned : List ℕ
+wReturned = 40 ∷ 114 ∷ 101 ∷ 116 ∷ 117 ∷ 114 ∷ 110 ∷ 101 ∷ 100 ∷ 32 ∷ []
+
 abbrev pub wInvalidated : List ℕ
 wInvalidated = 40 ∷ 105 ∷ 110 ∷ 118 ∷ 97 ∷ 108 ∷ 105 ∷ 100 ∷ 97 ∷ 116 ∷ 101 ∷ 100 ∷ 32 ∷ []
+
+abbrev pub wRemoved : List ℕ
+wRemoved = 40 ∷ 114 ∷ 101 ∷ 109 ∷ 111 ∷ 118 ∷ 101 ∷ 100 ∷ []
 
 abbrev pub wIds : List ℕ
 wIds = 40 ∷ 105 ∷ 100 ∷ 115 ∷ []
@@ -127,21 +149,22 @@ writtenIn (said b) = 0
 writtenIn (entry k w b) = 0
 writtenIn none = 0
 
--- a call that writes no ids and answers with the id x, behind its own head
-unfoldable pub doneText : List ℕ → Outcome → ℕ → List ℕ
-doneText head done x = named head x
-doneText head (refused n k) x = refusedText n
-doneText head (wrote k) x = []
-doneText head needed x = []
-doneText head (candidate k) x = []
-doneText head (ended n) x = []
-doneText head (missing k) x = []
-doneText head (invalid k) x = []
-doneText head (valid k) x = []
-doneText head (number n) x = []
-doneText head (said b) x = []
-doneText head (entry k w b) x = []
-doneText head none x = []
+-- a call that says no more than that it was done, or how much it wrote: it prints t, and a refused one its number; what is no outcome of such a
+-- call prints nothing
+unfoldable pub orRefused : List ℕ → Outcome → List ℕ
+orRefused t done = t
+orRefused t (wrote k) = t
+orRefused t (refused n k) = refusedText n
+orRefused t needed = []
+orRefused t (candidate k) = []
+orRefused t (ended n) = []
+orRefused t (missing k) = []
+orRefused t (invalid k) = []
+orRefused t (valid k) = []
+orRefused t (number n) = []
+orRefused t (said b) = []
+orRefused t (entry k w b) = []
+orRefused t none = []
 
 -- a query's answer
 abbrev yesNo : Bool → List ℕ
@@ -163,23 +186,31 @@ queryText (invalid k) = []
 queryText (valid k) = []
 queryText (number n) = []
 
+-- .. a number behind its head
+unfoldable pub numberText : List ℕ → Outcome → List ℕ
+numberText head (number n) = numbered head n
+numberText head (refused n k) = refusedText n
+numberText head done = []
+numberText head (wrote k) = []
+numberText head needed = []
+numberText head (candidate k) = []
+numberText head (ended n) = []
+numberText head (missing k) = []
+numberText head (invalid k) = []
+numberText head (valid k) = []
+numberText head (said b) = []
+numberText head (entry k w b) = []
+numberText head none = []
+
+-- .. rows, and pairs: "a pair is a count and a sum of bases"
 unfoldable pub listingText : Listing → List ℕ
-listingText t = go (t .outcome)
-  where
-    go : Outcome → List ℕ
-    go (wrote k) = pooledText (t .rows)
-    go (refused n k) = refusedText n
-    go done = []
-    go needed = []
-    go (candidate k) = []
-    go (ended n) = []
-    go (missing k) = []
-    go (invalid k) = []
-    go (valid k) = []
-    go (number n) = []
-    go (said b) = []
-    go (entry k w b) = []
-    go none = []
+listingText t = orRefused (pooledText (t .rows)) (t .outcome)
+
+abbrev pub pairOf : Bin → Pair
+pairOf b = record { one = b .count; two = b .total }
+
+unfoldable pub histogramText : fees.Histogram → List ℕ
+histogramText t = orRefused (binsText (map pairOf (t .bins))) (t .outcome)
 
 -- ---- what a form's fields stand for
 
@@ -219,6 +250,24 @@ submissionOf t =
       preheader = t .preheader;
       source = sourceOf (t .peer);
       verdict = verdictOf (t .verdict);
+    }
+
+unfoldable pub measuredOf : Optional → ValidationCost
+measuredOf (optional.Some c) = Measured c
+measuredOf optional.Absent = Unmeasured
+
+-- "with the fields of `UnconfirmedTx`"
+unfoldable pub unconfirmedOf : ReturnForm → UnconfirmedTx
+unconfirmedOf g =
+    record {
+      id = g .id;
+      fee = g .fee;
+      size = g .size;
+      cost = g .cost;
+      «validation_cost» = measuredOf (g .measured);
+      created = g .created;
+      «last_checked» = g .checked;
+      source = sourceOf (g .peer);
     }
 
 -- ---- what is held before the first `(ready)`
@@ -304,11 +353,24 @@ module _ (e b k p a : List ℕ) (h : Kept) where
         written = take (countOf 4 a) (s .written);
       }
 
-  -- what a call is to come to that writes no ids and leaves the statistics
-  unfoldable pub doneLine : List ℕ → Result → ℕ → Line
-  doneLine head s x =
+  -- a block: what `apply_block_at` is to come to. It changes the statistics too, and each id that it writes has its place in the answer buffer.
+  unfoldable pub appliedLine : BlockResult → Line
+  appliedLine s =
       record {
-        text = doneText head (s .outcome) x;
+        text = orRefused (listed wRemoved (s .result .written)) (s .result .outcome);
+        ready = true;
+        config = h .mempool .config;
+        pass = h .mempool .pass;
+        world = s .result .world;
+        stats = s .stats;
+        written = s .result .written;
+      }
+
+  -- a call that writes no ids and leaves the statistics: where it is not refused it prints t
+  unfoldable pub doneLine : List ℕ → Result → Line
+  doneLine t s =
+      record {
+        text = orRefused t (s .outcome);
         ready = true;
         config = h .mempool .config;
         pass = h .mempool .pass;
@@ -317,10 +379,13 @@ module _ (e b k p a : List ℕ) (h : Kept) where
         written = [];
       }
 
-  -- a changing call, of a pool that is there; f and s are the words of the form's lists, as far as its numbers of words go
+  -- a changing call, of a pool that is there; f and s are the words of the form's lists
   unfoldable pub altered : List ℕ → List ℕ → Change → Line
-  altered f s (Submit t) = processedLine (resultOf e b k p a (h .mempool) (submissionOf t) (take (t .inputs) f) (take (t .outputs) s)) (idOf (t .id))
-  altered f s (Invalidate time x) = doneLine wInvalidated (invalidated (h .mempool) (worldOf e b k p (h .mempool)) time (idOf x)) (idOf x)
+  altered f s (Submit t) = processedLine (resultOf e b k p a (h .mempool) (submissionOf t) f s) (idOf (t .id))
+  altered f s (Return g) =
+      doneLine (named wReturned (idOf (g .id))) (returned (entriesRoom e) (boxesRoom b) (h .mempool) (worldOf e b k p (h .mempool)) (unconfirmedOf g) f s)
+  altered f s (Block g) = appliedLine (blockResult e b k p a (h .mempool) (h .stats) (g .time) f s)
+  altered f s (Invalidate time x) = doneLine (named wInvalidated (idOf x)) (invalidated (h .mempool) (worldOf e b k p (h .mempool)) time (idOf x))
 
   -- a query's text; `room`: the words of the buffer that lists go to
   unfoldable pub asked : ℕ → Query → List ℕ
@@ -328,12 +393,29 @@ module _ (e b k p a : List ℕ) (h : Kept) where
   asked room Len = numbered wLen (h .mempool .counts .pooled)
   asked room (Contains time x) = queryText (containsOf e k (h .mempool) time (idOf x))
   asked room (Spending x) = queryText (spendingOf e b (h .mempool) (idOf x))
+  asked room (Fee minutes size) = numberText wFee (recommended (h .stats) (h .mempool) minutes size)
+  asked room (Wait time fee size) = numberText wWait (expectedWait e (h .stats) (h .mempool) time fee size)
+  asked room (Histogram time bins longest) = histogramText (histogramOf e (h .mempool) room time bins longest)
   asked room Charges = chargesText (h .mempool .sums .«interblock_cost») (flatPeers p (h .mempool .sums .peers))
   asked room Written = listed wIds (idsTo 4 a (h .written))
 
-  -- "Before the first `(ready)` any form but `pool` prints `(no pool)`"; an unreadable line is unreadable then too. n is the line's number.
+  -- a call that may be made: n is the line's number, f and s the words that were read, of which the form's lists have the first
+  unfoldable pub called : ℕ → ℕ → List ℕ → List ℕ → Call → Line
+  called n room f s (Start g) = startedLine (started (sizes (entriesRoom e) (boxesRoom b) (cacheRoom k) (length p / 2)) (configOf g))
+  called n room f s (Alter g) = altered (take (wordsOf g .one) f) (take (wordsOf g .two) s) g
+  called n room f s (Ask q) = same (asked room q)
+  called n room f s NotThere = same (unreadText n)
+
+  -- "Before the first `(ready)` any form but `pool` prints `(no pool)`"
   unfoldable pub lineOf : ℕ → ℕ → List ℕ → List ℕ → Call → Line
-  lineOf n room f s (Start g) = startedLine (started (sizes (entriesRoom e) (boxesRoom b) (cacheRoom k) (length p / 2)) (configOf g))
-  lineOf n room f s (Alter g) = pick (h .ready) (altered f s g) (same wNoPool)
-  lineOf n room f s (Ask q) = same (pick (h .ready) (asked room q) wNoPool)
-  lineOf n room f s NotThere = same (unreadText n)
+  lineOf n room f s c = pick (lacksPool (h .ready) c) (same wNoPool) (called n room f s c)
+
+-- ---- on the edges of docs/FORMS.md: `(removed a4 a1)`, none removed, and a refused block; `(fee 4000)`; `(bins (0 0) (1 4096))`
+
+text-edges : (orRefused (listed wRemoved (164 ∷ 161 ∷ [])) (wrote 2) ≡ 40 ∷ 114 ∷ 101 ∷ 109 ∷ 111 ∷ 118 ∷ 101 ∷ 100 ∷ 32 ∷ 97 ∷ 52 ∷ 32 ∷ 97 ∷ 49 ∷ 41 ∷ [])
+    × (orRefused (listed wRemoved []) (wrote 0) ≡ 40 ∷ 114 ∷ 101 ∷ 109 ∷ 111 ∷ 118 ∷ 101 ∷ 100 ∷ 41 ∷ [])
+    × (orRefused (listed wRemoved []) (refused 20 0) ≡ 40 ∷ 114 ∷ 101 ∷ 102 ∷ 117 ∷ 115 ∷ 101 ∷ 100 ∷ 32 ∷ 50 ∷ 48 ∷ 41 ∷ [])
+    × (numberText wFee (number 4000) ≡ 40 ∷ 102 ∷ 101 ∷ 101 ∷ 32 ∷ 52 ∷ 48 ∷ 48 ∷ 48 ∷ 41 ∷ [])
+    × (histogramText (fees.histogram (wrote 2) (bin 0 0 ∷ bin 1 4096 ∷ [])) ≡ 40 ∷ 98 ∷ 105 ∷ 110 ∷ 115 ∷ 32 ∷ 40 ∷ 48 ∷ 32 ∷ 48 ∷ 41 ∷ 32 ∷ 40 ∷ 49 ∷ 32 ∷ 52 ∷ 48 ∷ 57 ∷ 54 ∷ 41 ∷ 41 ∷ [])
+unfolding orRefused numberText histogramText refusedText listed numbered binsText pairText numeral digitByte
+text-edges = (refl, refl, refl, refl, refl)

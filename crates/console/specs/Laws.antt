@@ -37,23 +37,24 @@ use Rattle.forms.specs.Nums.{Prints}
 use Rattle.stats.specs.Stats.{fresh}
 use Rattle.stats.specs.declared.FeeStats.{FeeStats}
 use Rattle.store.specs.Fits.{Fits, goes-on, un-not}
-use Rattle.process.specs.Post.{Post, resultOf}
+use Rattle.process.specs.Post.{Post}
 use Rattle.process.specs.declared.Processed.{Processed}
-use Rattle.returns.specs.Returns.{invalidated}
 use Rattle.returns.specs.Post.{Meets}
+use Rattle.blocks.specs.Blocks as blocks
+use Rattle.blocks.specs.Blocks.{BlockResult, appliedTxs, confirmedOf, blockRefusal, begun, applied}
+use Rattle.blocks.specs.Post.{Post as BlockPost}
+use Rattle.blocks.specs.declared.Applied.{Applied}
 use Rattle.mempool.specs.Start.{Sizes, sizes, within, sized, settled as settles, empty, started}
-use Rattle.words.specs.Ids.{idOf}
-use Rattle.words.specs.declared.ids.Id.{Id}
 use Rattle.lines.specs.declared.read.PoolForm.{PoolForm}
-use Rattle.lines.specs.declared.read.TxForm.{TxForm}
 use Rattle.console.specs.declared.calls.Call.{Call}
 use Rattle.console.specs.declared.calls.Call.the-variants.{Start, Alter, Ask, NotThere}
 use Rattle.console.specs.declared.calls.Change.{Change}
-use Rattle.console.specs.declared.calls.Change.the-variants.{Submit, Invalidate}
 use Rattle.console.specs.declared.calls.Query.{Query}
-use Rattle.console.specs.Console.{Line, wReady, wNoPool, refusedText, unreadText, wInvalidated, txText, doneText, writtenIn, configOf, noConfig, nothing, submissionOf, processedLine, doneLine, altered, startedLine, same, asked, lineOf}
+use Rattle.console.specs.declared.calls.Words.{Words}
+use Rattle.console.specs.Calls.{lacksPool, wordsOf}
+use Rattle.console.specs.Console.{Line, wReady, wNoPool, refusedText, unreadText, txText, orRefused, writtenIn, configOf, noConfig, nothing, processedLine, appliedLine, doneLine, altered, startedLine, same, asked, called, lineOf}
 use Rattle.console.specs.Texts.{prints-as}
-use Rattle.console.specs.After.{Holds, After, ToldOf}
+use Rattle.console.specs.After.{Holds, After, ToldOf, ToldBlock}
 use Rattle.console.specs.declared.Kept.{Kept}
 use Rattle.console.specs.declared.Told.{Told}
 
@@ -187,20 +188,55 @@ pub cut-is : (r a : ℕ) (l : List ℕ) → r ≡ min a (length l) → r ≡ len
 cut-is r a l q = omega (arith, length-take r l)
 
 -- the lists are cut where the form's numbers of words say, or where the words end
-pub after-cut : (e b k p a e' b' k' p' a' o₀ o : List ℕ) (h : Kept) (t : Told) (u : Submission) (f s : List ℕ) (x i j n m : ℕ) → n ≡ min i (length f) → m ≡ min j (length s)
-    → After e' b' k' p' a' o₀ o t (processedLine e b k p a h (resultOf e b k p a (h .mempool) u (take n f) (take m s)) x)
-    → After e' b' k' p' a' o₀ o t (processedLine e b k p a h (resultOf e b k p a (h .mempool) u (take i f) (take j s)) x)
-after-cut e b k p a e' b' k' p' a' o₀ o h t u f s x i j n m v w q = rw (← take-min i n f v, ← take-min j m s w) q
+pub after-cut : (e b k p a e' b' k' p' a' o₀ o : List ℕ) (h : Kept) (t : Told) (f s : List ℕ) (g : Change) (c : Words) (n m : ℕ) → c ≡ wordsOf g → n ≡ min (c .one) (length f) → m ≡ min (c .two) (length s)
+    → After e' b' k' p' a' o₀ o t (altered e b k p a h (take n f) (take m s) g) → After e' b' k' p' a' o₀ o t (altered e b k p a h (take (wordsOf g .one) f) (take (wordsOf g .two) s) g)
+after-cut e b k p a e' b' k' p' a' o₀ o h t f s g c n m x v w q = rw (← x, ← take-min (c .one) n f v, ← take-min (c .two) m s w) q
+
+-- ---- a block's line
+
+pub says-applied : (st : Mempool) (w : World) (s : FeeStats) (room time : ℕ) (txs ins : List ℕ) → writtenIn (applied st w s room time txs ins .result .outcome) ≡ length (applied st w s room time txs ins .result .written)
+unfolding applied blocks.settled writtenIn
+says-applied st w s room time txs ins = go (eqb (blockRefusal st room txs ins) 0)
+  where
+    go : (t : Bool) → writtenIn (pick t (blocks.settled st w time (appliedTxs time (confirmedOf txs ins) (begun w s))) (record { result = unchanged (refused (blockRefusal st room txs ins) 0) w; stats = s }) .result .outcome)
+        ≡ length (pick t (blocks.settled st w time (appliedTxs time (confirmedOf txs ins) (begun w s))) (record { result = unchanged (refused (blockRefusal st room txs ins) 0) w; stats = s }) .result .written)
+    go true = refl
+    go false = refl
+
+-- each id that it wrote has its place, so all are held
+module _ (e b k p a e' b' k' a' : List ℕ) (h : Kept) (r : Applied) (s : BlockResult) (d : BlockPost (h .mempool) r e' b' k' p a a' s)
+    (y : writtenIn (s .result .outcome) ≡ length (s .result .written)) (o₀ o : List ℕ) (t : Told) (w : ToldBlock a' r o₀ o t) where
+  count-removed : t .kept .written ≡ length (s .result .written)
+  count-removed = let z : t .kept .written ≡ min (length (s .result .written)) (length a / 4) = w .written ∙ rw (d .outcome, y, d .wrote .kept) in omega (arith, z, d .placed)
+
+  held-removed : idsTo 4 a' (t .kept .written) ≡ s .result .written
+  held-removed =
+      let z : min (length (s .result .written)) (countOf 4 a) ≡ length (s .result .written) = omega (arith, d .placed) in
+      rw count-removed (rw z at (shown a a' (s .result .written) (length (s .result .written)) (d .wrote) refl)) ∙ take-all (countOf 4 a) (s .result .written) (d .placed)
+
+  pub after-applied : After e' b' k' p a' o₀ o t (appliedLine e b k p a h s)
+  unfolding appliedLine
+  after-applied =
+      record {
+        holds = record { fits = rw (w .mempool) (d .fits); written = omega (arith, count-removed, d .placed, d .wrote .kept) };
+        prints = prints-as (rw (d .outcome, held-removed)) (w .prints);
+        ready = w .ready;
+        config = rw (w .mempool) (d .config);
+        pass = rw (w .mempool) (d .pass);
+        world = rw (w .mempool) (d .world);
+        stats = w .stats ∙ d .stats;
+        written = held-removed;
+      }
 
 -- ---- the line of a call that writes no ids
 
-pub after-done : (e b k p a e' b' k' p' o₀ o : List ℕ) (h : Kept) (r : Mempool) (n : Outcome) (s : Result) (head : List ℕ) (x len : ℕ) → Meets (h .mempool) r n e' b' k' p' s → Prints (doneText head n x) 0 o₀ o len
-    → After e' b' k' p' a o₀ o (record { kept = record { ready = true; mempool = r; stats = h .stats; written = 0 }; len = len }) (doneLine e b k p a h head s x)
+pub after-done : (e b k p a e' b' k' p' o₀ o : List ℕ) (h : Kept) (r : Mempool) (n : Outcome) (s : Result) (u : List ℕ) (len : ℕ) → Meets (h .mempool) r n e' b' k' p' s → Prints (orRefused u n) 0 o₀ o len
+    → After e' b' k' p' a o₀ o (record { kept = record { ready = true; mempool = r; stats = h .stats; written = 0 }; len = len }) (doneLine e b k p a h u s)
 unfolding doneLine
-after-done e b k p a e' b' k' p' o₀ o h r n s head x len d t =
+after-done e b k p a e' b' k' p' o₀ o h r n s u len d t =
     record {
       holds = record { fits = d .fits; written = omega arith };
-      prints = prints-as (ap (λ (z : Outcome). doneText head z x) (d .outcome)) t;
+      prints = prints-as (ap (orRefused u) (d .outcome)) t;
       ready = refl;
       config = d .config;
       pass = d .pass;
@@ -208,19 +244,6 @@ after-done e b k p a e' b' k' p' o₀ o h r n s head x len d t =
       stats = refl;
       written = of-none (ids 4) a;
     }
-
--- ---- a changing call's line, call by call
-
-module _ (e b k p a : List ℕ) (h : Kept) (f s : List ℕ) (g : Change) where
-  pub alter-submitted : (t : TxForm) → g ≡ Submit t
-      → altered e b k p a h f s g ≡ processedLine e b k p a h (resultOf e b k p a (h .mempool) (submissionOf t) (take (t .inputs) f) (take (t .outputs) s)) (idOf (t .id))
-  unfolding altered
-  alter-submitted t q = rw q
-
-  pub alter-invalidated : (time : ℕ) (x : Id) → g ≡ Invalidate time x
-      → altered e b k p a h f s g ≡ doneLine e b k p a h wInvalidated (invalidated (h .mempool) (worldOf e b k p (h .mempool)) time (idOf x)) (idOf x)
-  unfolding altered
-  alter-invalidated time x q = rw q
 
 -- ---- a start's line
 
@@ -319,29 +342,29 @@ module _ (e b k p : List ℕ) (c : MempoolConfig) where
 -- ---- a line, call by call
 
 module _ (e b k p a : List ℕ) (h : Kept) (n room : ℕ) (f s : List ℕ) (call : Call) where
-  pub line-started : (g : PoolForm) → call ≡ Start g → lineOf e b k p a h n room f s call ≡ startedLine e b k p a h (started (sizes (entriesRoom e) (boxesRoom b) (cacheRoom k) (length p / 2)) (configOf g))
+  pub line-called : {t : Bool} → t ≡ lacksPool (h .ready) call → t ≡ false → lineOf e b k p a h n room f s call ≡ called e b k p a h n room f s call
   unfolding lineOf
-  line-started g q = rw q
+  line-called q z = unmet _ _ _ (sym q ∙ z)
 
-  pub line-altered : (t : Change) → call ≡ Alter t → h .ready ≡ true → lineOf e b k p a h n room f s call ≡ altered e b k p a h f s t
+  pub line-lacking : {t : Bool} → t ≡ lacksPool (h .ready) call → t ≡ true → lineOf e b k p a h n room f s call ≡ same e b k p a h wNoPool
   unfolding lineOf
-  line-altered t q z = rw q (met _ _ _ z)
+  line-lacking q z = met _ _ _ (sym q ∙ z)
 
-  pub line-unready : (t : Change) → call ≡ Alter t → h .ready ≡ false → lineOf e b k p a h n room f s call ≡ same e b k p a h wNoPool
-  unfolding lineOf
-  line-unready t q z = rw q (unmet _ _ _ z)
+  pub called-started : (g : PoolForm) → call ≡ Start g → called e b k p a h n room f s call ≡ startedLine e b k p a h (started (sizes (entriesRoom e) (boxesRoom b) (cacheRoom k) (length p / 2)) (configOf g))
+  unfolding called
+  called-started g q = rw q
 
-  pub line-asked : (t : Query) → call ≡ Ask t → h .ready ≡ true → lineOf e b k p a h n room f s call ≡ same e b k p a h (asked e b k p a h room t)
-  unfolding lineOf
-  line-asked t q z = rw q (ap (same e b k p a h) (met _ _ _ z))
+  pub called-altered : (g : Change) → call ≡ Alter g → called e b k p a h n room f s call ≡ altered e b k p a h (take (wordsOf g .one) f) (take (wordsOf g .two) s) g
+  unfolding called
+  called-altered g q = rw q
 
-  pub line-unasked : (t : Query) → call ≡ Ask t → h .ready ≡ false → lineOf e b k p a h n room f s call ≡ same e b k p a h wNoPool
-  unfolding lineOf
-  line-unasked t q z = rw q (ap (same e b k p a h) (unmet _ _ _ z))
+  pub called-asked : (t : Query) → call ≡ Ask t → called e b k p a h n room f s call ≡ same e b k p a h (asked e b k p a h room t)
+  unfolding called
+  called-asked t q = rw q
 
-  pub line-unread : call ≡ NotThere → lineOf e b k p a h n room f s call ≡ same e b k p a h (unreadText n)
-  unfolding lineOf
-  line-unread q = rw q
+  pub called-unread : call ≡ NotThere → called e b k p a h n room f s call ≡ same e b k p a h (unreadText n)
+  unfolding called
+  called-unread q = rw q
 
 pub after-as : {e b k p a o₀ o : List ℕ} {t : Told} {m m' : Line} → m' ≡ m → After e b k p a o₀ o t m → After e b k p a o₀ o t m'
 after-as q h = rw q h

@@ -1,10 +1,12 @@
 // The call that a form asks for.
+use lines::read::BlockForm;
 use lines::read::Form;
 use lines::read::PoolForm;
+use lines::read::ReturnForm;
 use lines::read::TxForm;
 use words::ids::Id;
 ghost use mathlib.Core.Path.{_≡_};
-ghost use Rattle.console.specs.Calls.{callOf};
+ghost use Rattle.console.specs.Calls.{callOf, lacksPool, wordsOf};
 
 // What changes nothing. `charges` and `written` are no calls of the pool: they read what poolrun holds.
 pub enum Query {
@@ -15,6 +17,12 @@ pub enum Query {
     Contains(u64, Id),
     // box
     Spending(Id),
+    // minutes, size
+    Fee(u32, u32),
+    // time, fee, size
+    Wait(u64, u64, u32),
+    // time, bins, longest
+    Histogram(u64, u32, u64),
     Charges,
     Written,
 }
@@ -22,6 +30,8 @@ pub enum Query {
 // What changes the pool.
 pub enum Change {
     Submit(TxForm),
+    Return(ReturnForm),
+    Block(BlockForm),
     // time, id
     Invalidate(u64, Id),
 }
@@ -34,29 +44,67 @@ pub enum Call {
     NotThere,
 }
 
+// How many words the lists of a form have in the two slices that they are read into.
+pub struct Words {
+    pub one: usize,
+    pub two: usize,
+}
+
 pub fn call_of(form: Form) -> Call
     ensures { λ r. ⌜ r ≡ callOf form ⌝ }
 {
     match form {
         Form::Pool(p) => Call::Start(p),
         Form::Tx(t) => Call::Alter(Change::Submit(t)),
+        Form::Return(g) => Call::Alter(Change::Return(g)),
+        Form::Block(g) => Call::Alter(Change::Block(g)),
         Form::Invalidate(time, id) => Call::Alter(Change::Invalidate(time, id)),
         Form::List => Call::Ask(Query::Listing(u64::MAX)),
         Form::Top(limit) => Call::Ask(Query::Listing(limit)),
         Form::Len => Call::Ask(Query::Len),
         Form::Contains(time, id) => Call::Ask(Query::Contains(time, id)),
         Form::Spending(key) => Call::Ask(Query::Spending(key)),
+        Form::Fee(minutes, size) => Call::Ask(Query::Fee(minutes, size)),
+        Form::Wait(time, fee, size) => Call::Ask(Query::Wait(time, fee, size)),
+        Form::Histogram(time, bins, longest) => Call::Ask(Query::Histogram(time, bins, longest)),
         Form::Charges => Call::Ask(Query::Charges),
         Form::Written => Call::Ask(Query::Written),
-        Form::Return(_) => Call::NotThere,
-        Form::Block(_) => Call::NotThere,
         Form::Open(_, _, _) => Call::NotThere,
         Form::Next => Call::NotThere,
         Form::Answer(_, _) => Call::NotThere,
         Form::Rebroadcast(_) => Call::NotThere,
-        Form::Fee(_, _) => Call::NotThere,
-        Form::Wait(_, _, _) => Call::NotThere,
-        Form::Histogram(_, _, _) => Call::NotThere,
         Form::Unread => Call::NotThere,
+    }
+}
+
+// Whether a call asks for a pool before there is one.
+pub fn lacks_pool(ready: bool, call: Call) -> bool
+    ensures { λ r. ⌜ r ≡ lacksPool ready call ⌝ }
+{
+    match call {
+        Call::Start(_) => false,
+        Call::Alter(_) => !ready,
+        Call::Ask(_) => !ready,
+        Call::NotThere => false,
+    }
+}
+
+pub fn words_of(change: Change) -> Words
+    ensures { λ r. ⌜ r ≡ wordsOf change ⌝ }
+{
+    match change {
+        Change::Submit(t) => Words {
+            one: t.inputs,
+            two: t.outputs,
+        },
+        Change::Return(g) => Words {
+            one: g.inputs,
+            two: g.outputs,
+        },
+        Change::Block(g) => Words {
+            one: g.transactions,
+            two: g.inputs,
+        },
+        Change::Invalidate(_, _) => Words { one: 0, two: 0 },
     }
 }

@@ -2,6 +2,9 @@
 use crate::Kept;
 use crate::answer::refused;
 use crate::calls::Query;
+use crate::estimates::on_fee;
+use crate::estimates::on_histogram;
+use crate::estimates::on_wait;
 use mempool::listing::top;
 use mempool::queries::contains;
 use mempool::queries::len;
@@ -99,11 +102,17 @@ pub fn ask(
     ensures { λ r. ⌜ Prints (asked (now (entries .entry)) (now (boxes .entry)) (now (cache .entry)) (now (peers .entry)) (now (answer .entry)) kept (length (now (listing .entry))) query) 0 (now (out .entry)) (now (out .exit)) r ⌝ }
 {
     let mempool = kept.mempool;
+    let stats = kept.stats;
     match query {
         Query::Listing(limit) => on_top(entries, mempool, listing, limit as usize, out),
         Query::Len => with_number(out, b"(len ", len(mempool) as u64),
         Query::Contains(time, id) => on_contains(entries, cache, mempool, time, id, out),
         Query::Spending(key) => on_spending(entries, boxes, mempool, key, out),
+        Query::Fee(minutes, size) => on_fee(stats, mempool, minutes, size, out),
+        Query::Wait(time, fee, size) => on_wait(entries, stats, mempool, time, fee, size, out),
+        Query::Histogram(time, bins, longest) => {
+            on_histogram(entries, mempool, listing, time, bins, longest, out)
+        }
         Query::Charges => charges(out, mempool.sums.interblock_cost, peers, mempool.sums.peers),
         Query::Written => with_ids(out, b"(ids", answer, kept.written),
     }

@@ -72,19 +72,10 @@ pub fn on_pool(
             },
             len: text(out, 0, b"(ready)"),
         },
-        StartOutcome::NotStarted(n) => {
-            let mempool = kept.mempool;
-            let stats = kept.stats;
-            Told {
-                kept: Kept {
-                    ready: kept.ready,
-                    mempool,
-                    stats,
-                    written: 0,
-                },
-                len: refused(out, n),
-            }
-        }
+        StartOutcome::NotStarted(n) => Told {
+            kept: Kept { written: 0, ..kept },
+            len: refused(out, n),
+        },
     }
 }
 

@@ -2,6 +2,7 @@
 use crate::Kept;
 use crate::Told;
 use crate::answer::refused;
+use crate::answer::smaller;
 use lines::fields::Optional;
 use lines::read::TxForm;
 use pool_types::ProcessingOutcome;
@@ -16,17 +17,17 @@ use replies::with_id;
 use stats::FeeStats;
 use words::ids::Id;
 ghost use mathlib.Core.Path.{_≡_};
-ghost use Prim.Native.Nat.{_/_, _≤_, min};
-ghost use lib.ListN.{length, take};
+ghost use Prim.Native.Nat.{_/_, _≤_};
+ghost use lib.ListN.{length};
 ghost use Rattle.words.specs.Ids.{idOf};
 ghost use Rattle.pool_types.specs.Outcomes.{processedOf};
 ghost use Rattle.boxes.specs.Flat.{countOf, idsTo};
 ghost use Rattle.forms.specs.Nums.{Prints};
-ghost use Rattle.process.specs.Post.{resultOf};
-ghost use Rattle.console.specs.Console.{sourceOf, verdictOf, submissionOf, txText, writtenIn, processedLine};
+ghost use Rattle.console.specs.declared.calls.Change.the-variants.{Submit};
+ghost use Rattle.console.specs.Console.{sourceOf, verdictOf, submissionOf, txText, writtenIn, altered};
 ghost use Rattle.console.specs.After.{Holds, After, ToldOf};
 
-fn source_of(peer: Optional) -> Source
+pub fn source_of(peer: Optional) -> Source
     ensures { λ r. ⌜ r ≡ sourceOf peer ⌝ }
 {
     match peer {
@@ -95,12 +96,6 @@ fn tell_processed(
     }
 }
 
-fn smaller(a: usize, b: usize) -> usize
-    ensures { λ r. ⌜ r ≡ min a b ⌝ }
-{
-    if a < b { a } else { b }
-}
-
 // What is held after a submission, and its answer.
 fn told(answer: &[u64], stats: FeeStats, done: Processed, id: Id, out: &mut [u8]) -> Told
     requires { ⌜ (length (now answer) ≤ 1024) × (32768 ≤ length (now out)) ⌝ }
@@ -121,7 +116,7 @@ fn told(answer: &[u64], stats: FeeStats, done: Processed, id: Id, out: &mut [u8]
     }
 }
 
-fn submit(
+pub fn on_tx(
     entries: &mut [u64],
     boxes: &mut [u64],
     cache: &mut [u64],
@@ -136,7 +131,7 @@ fn submit(
     requires { ⌜ Holds (now entries) (now boxes) (now cache) (now peers) (now answer) kept ⌝ }
     requires { ⌜ (length (now answer) ≤ 1024) × (32768 ≤ length (now out)) ⌝ }
     ensures { λ r. ⌜ After (now (entries .exit)) (now (boxes .exit)) (now (cache .exit)) (now (peers .exit)) (now (answer .exit)) (now (out .entry)) (now (out .exit)) r
-        (processedLine (now (entries .entry)) (now (boxes .entry)) (now (cache .entry)) (now (peers .entry)) (now (answer .entry)) kept (resultOf (now (entries .entry)) (now (boxes .entry)) (now (cache .entry)) (now (peers .entry)) (now (answer .entry)) (kept .mempool) (submissionOf t) (now (inputs .entry)) (now (outputs .entry))) (idOf (t .id))) ⌝ }
+        (altered (now (entries .entry)) (now (boxes .entry)) (now (cache .entry)) (now (peers .entry)) (now (answer .entry)) kept (now (inputs .entry)) (now (outputs .entry)) (Submit t)) ⌝ }
 {
     let mempool = kept.mempool;
     let stats = kept.stats;
@@ -154,38 +149,4 @@ fn submit(
         outputs,
     );
     told(&answer[..], stats, done, id, out)
-}
-
-// Submits it: inputs stand at the front of `first`, outputs at the front of `second`.
-pub fn on_tx(
-    entries: &mut [u64],
-    boxes: &mut [u64],
-    cache: &mut [u64],
-    peers: &mut [u64],
-    answer: &mut [u64],
-    first: &[u64],
-    second: &[u64],
-    kept: Kept,
-    t: TxForm,
-    out: &mut [u8],
-) -> Told
-    requires { ⌜ Holds (now entries) (now boxes) (now cache) (now peers) (now answer) kept ⌝ }
-    requires { ⌜ (length (now answer) ≤ 1024) × (32768 ≤ length (now out)) ⌝ }
-    ensures { λ r. ⌜ After (now (entries .exit)) (now (boxes .exit)) (now (cache .exit)) (now (peers .exit)) (now (answer .exit)) (now (out .entry)) (now (out .exit)) r
-        (processedLine (now (entries .entry)) (now (boxes .entry)) (now (cache .entry)) (now (peers .entry)) (now (answer .entry)) kept (resultOf (now (entries .entry)) (now (boxes .entry)) (now (cache .entry)) (now (peers .entry)) (now (answer .entry)) (kept .mempool) (submissionOf t) (take (t .inputs) (now (first .entry))) (take (t .outputs) (now (second .entry)))) (idOf (t .id))) ⌝ }
-{
-    let n = smaller(t.inputs, first.len());
-    let m = smaller(t.outputs, second.len());
-    submit(
-        entries,
-        boxes,
-        cache,
-        peers,
-        answer,
-        &first[..n],
-        &second[..m],
-        kept,
-        t,
-        out,
-    )
 }

@@ -6,41 +6,41 @@ use Rattle.console.proofs.start.on_pool.Statement.{statement}
 use Rattle.console.proofs.start.on_pool.Tie as tie
 use Rattle.console.proofs.start.on_pool.Reads as reads
 use Rattle.console.proofs.start.on_pool.Lts as lts
-use Rattle.mempool.proofs.start.Reads as start-reads
-use Rattle.replies.proofs.pieces.text.Reads as text-reads
 use Rattle.console.proofs.answer.refused.Reads as refused-reads
 use Rattle.console.proofs.start.config_of.Reads as config-of-reads
+use Rattle.mempool.proofs.start.Reads as start-reads
+use Rattle.replies.proofs.pieces.text.Reads as text-reads
 use Rattle.stats.proofs.FeeStats.new.Reads as new-reads
 
--- src/start.rt:55:65
+-- src/start.rt:64:65
 config-of-requires : tie.Need-config-of-requires
 config-of-requires c κs = search needs
 
--- src/start.rt:55:9
+-- src/start.rt:64:9
 start-requires : tie.Need-start-requires
 start-requires c κs = search needs
 
--- src/start.rt:57:29
+-- src/start.rt:66:29
 enum-known-started : tie.Need-enum-known-started
 enum-known-started c = search needs
 
--- src/start.rt:61:24
+-- src/start.rt:70:24
 new-requires : tie.Need-new-requires
 new-requires c κs = search needs
 
--- src/start.rt:64:31
+-- src/start.rt:73:31
 slice-aggregate-text : tie.Need-slice-aggregate-text
 slice-aggregate-text c = search needs
 
--- src/start.rt:64:18
+-- src/start.rt:73:18
 text-requires : tie.Need-text-requires
 text-requires c κs = omega (arith, c .before .before .before .before .before .before .before .before .before .before .before .before .before .before .pre)
 
--- src/start.rt:66:34
+-- src/start.rt:75:34
 enum-known-started-2 : tie.Need-enum-known-started-2
 enum-known-started-2 c = search needs
 
--- src/start.rt:76:22
+-- src/start.rt:77:18
 refused-requires : tie.Need-refused-requires
 refused-requires c κs = search needs
 
