@@ -1,7 +1,7 @@
 -- What the exported calls leave, by the words of the C side: the equations of the calls that they export, through the decodings of `State` and
 -- the numbers of `Codes`.
 use Prim.Native.Nat.{ℕ, _≤_, _<_}
-use mathlib.Core.Path.{_≡_, refl, sym, ap, _∙_}
+use mathlib.Core.Path.{_≡_, refl, ap, _∙_}
 use mathlib.Core.Bool.{true, false}
 use mathlib.Core.List.{List}
 use native.Mathlib.Omega.{arith}
@@ -14,7 +14,7 @@ use Rattle.process.specs.declared.Processed.{Processed}
 use Rattle.store.specs.Fits.{Fits}
 use Rattle.process.specs.Post.{Post, resultOf}
 use Rattle.process.specs.Numbers.{ofSubmission}
-use Rattle.host.specs.State.{stateOf, submissionOf, writtenAt, changing, leftWords, left-length, left-written, left-state, left-others}
+use Rattle.host.specs.State.{stateOf, submissionOf, writtenAt, changing, leftWords, left-length, left-written, left-others, left-held}
 use Rattle.host.specs.Codes.{codeOf, writtenOf}
 
 -- the words of the lent tables and of the answer buffer
@@ -71,17 +71,9 @@ module _ (w₀ w : Lent) (s₀ s sub ins outs : List ℕ) (n : ℕ) {st : Mempoo
     (p : Fits (w₀ .entries) (w₀ .boxes) (w₀ .cache) (w₀ .peers) st
     → Post st r (w .entries) (w .boxes) (w .cache) (w .peers) (w₀ .answer) (w .answer) (resultOf (w₀ .entries) (w₀ .boxes) (w₀ .cache) (w₀ .peers) (w₀ .answer) st a ins outs))
     (q : s ≡ leftWords s₀ (r .mempool .counts) (r .mempool .cached) (r .mempool .sums) n) where
-  -- settings and pass are those that were read
-  same : r .mempool .config ≡ st .config → r .mempool .pass ≡ st .pass → stateOf s ≡ r .mempool
-  unfolding stateOf
-  same u v =
-      ap stateOf q
-      ∙ left-state s₀ (r .mempool .counts) (r .mempool .cached) (r .mempool .sums) n h
-      ∙ λ t. record { config = sym (u ∙ ap (λ (m : Mempool). m .config) e) t; counts = r .mempool .counts; cached = r .mempool .cached; sums = r .mempool .sums; pass = sym (v ∙ ap (λ (m : Mempool). m .pass) e) t }
-
   posted : Fits (w₀ .entries) (w₀ .boxes) (w₀ .cache) (w₀ .peers) st
       → Post st (record { mempool = stateOf s; outcome = r .outcome }) (w .entries) (w .boxes) (w .cache) (w .peers) (w₀ .answer) (w .answer) (resultOf (w₀ .entries) (w₀ .boxes) (w₀ .cache) (w₀ .peers) (w₀ .answer) st a ins outs)
-  posted g = let t = p g in rw (same (t .config) (t .pass)) t
+  posted g = let t = p g in rw (left-held s₀ s st (r .mempool) n h e q (t .config) (t .pass)) t
 
   pub ran-words : {code : ℕ} → ofSubmission (processedOf (r .outcome)) ≡ true → code ≡ codeOf (processedOf (r .outcome)) → n ≡ writtenOf (processedOf (r .outcome)) → Ran w₀ w s₀ s sub ins outs code
   ran-words o c d =

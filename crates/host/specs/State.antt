@@ -2,7 +2,7 @@
 -- decoding, and every word has a meaning. The words 9 to 13 are what a submission changes, and word 24 is no part of the state: how many ids the
 -- last changing call wrote.
 use Prim.Native.Nat.{ℕ, _%_, _≤_, _<_}
-use mathlib.Core.Path.{_≡_, refl, ap, _∙_}
+use mathlib.Core.Path.{_≡_, refl, sym, ap, _∙_}
 use mathlib.Core.Bool.{Bool, true, false}
 use mathlib.Core.List.{List, [], _∷_}
 use native.Mathlib.Omega.{arith}
@@ -210,3 +210,12 @@ module _ (l : List ℕ) (n : Counts) (k : ℕ) (s : Sums) (w : ℕ) where
         go false false false false true f z = absurd (differ z)
         go false false false false false true z = absurd (differ z)
         go false false false false false false z = refl
+
+-- from the state st that was read, r was handed back and stored: settings and pass are those that were read
+module _ (s₀ s : List ℕ) (st r : Mempool) (n : ℕ) (h : 25 ≤ length s₀) (e : st ≡ stateOf s₀) (q : s ≡ leftWords s₀ (r .counts) (r .cached) (r .sums) n) where
+  pub left-held : r .config ≡ st .config → r .pass ≡ st .pass → stateOf s ≡ r
+  unfolding stateOf
+  left-held u v =
+      ap stateOf q
+      ∙ left-state s₀ (r .counts) (r .cached) (r .sums) n h
+      ∙ λ t. record { config = sym (u ∙ ap (λ (m : Mempool). m .config) e) t; counts = r .counts; cached = r .cached; sums = r .sums; pass = sym (v ∙ ap (λ (m : Mempool). m .pass) e) t }

@@ -1,9 +1,12 @@
 // What a call answers the C side: one number for each outcome.
+use pool_types::BlockOutcome;
+use pool_types::InvalidateOutcome;
 use pool_types::ListOutcome;
 use pool_types::ProcessingOutcome;
+use pool_types::ReturnOutcome;
 use pool_types::TestOutcome;
 ghost use mathlib.Core.Path.{_≡_};
-ghost use Rattle.pool_types.specs.Outcomes.{processedOf, testedOf, listedOf};
+ghost use Rattle.pool_types.specs.Outcomes.{processedOf, returnedOf, invalidatedOf, blockOf, testedOf, listedOf};
 ghost use Rattle.host.specs.Codes.{codeOf, writtenOf};
 ghost use Rattle.host.specs.Queries.{queryOf};
 
@@ -29,6 +32,43 @@ pub fn written_of(outcome: ProcessingOutcome) -> u64
         ProcessingOutcome::DoubleSpendLoser(n) => n as u64,
         ProcessingOutcome::VerdictNeeded => 0,
         ProcessingOutcome::Declined(_) => 0,
+    }
+}
+
+pub fn return_code(outcome: ReturnOutcome) -> u64
+    ensures { λ r. ⌜ r ≡ codeOf (returnedOf outcome) ⌝ }
+{
+    match outcome {
+        ReturnOutcome::Returned => 0,
+        ReturnOutcome::NotReturned(n) => n,
+    }
+}
+
+pub fn invalidate_code(outcome: InvalidateOutcome) -> u64
+    ensures { λ r. ⌜ r ≡ codeOf (invalidatedOf outcome) ⌝ }
+{
+    match outcome {
+        InvalidateOutcome::Invalidated => 0,
+        InvalidateOutcome::NotInvalidated(n) => n,
+    }
+}
+
+pub fn block_code(outcome: BlockOutcome) -> u64
+    ensures { λ r. ⌜ r ≡ codeOf (blockOf outcome) ⌝ }
+{
+    match outcome {
+        BlockOutcome::Removed(_) => 100,
+        BlockOutcome::NotApplied(n) => n,
+    }
+}
+
+// How many ids a block wrote.
+pub fn block_written(outcome: BlockOutcome) -> u64
+    ensures { λ r. ⌜ r ≡ writtenOf (blockOf outcome) ⌝ }
+{
+    match outcome {
+        BlockOutcome::Removed(n) => n as u64,
+        BlockOutcome::NotApplied(_) => 0,
     }
 }
 

@@ -1,4 +1,6 @@
-// The state and a submission, read from words that the C side holds and stored back to them. Only this file knows the layout.
+// The state, a submission and a transaction that is given back, read from words that the C side holds; the state is stored back to them. Only this
+// file knows the layout.
+use entries::fields::ValidationCost;
 use pool_types::Counts;
 use pool_types::FeeStrategy;
 use pool_types::Mempool;
@@ -8,18 +10,23 @@ use pool_types::Source;
 use pool_types::Submission;
 use pool_types::Sums;
 use pool_types::Verdict;
+use returns::UnconfirmedTx;
 use words::ids::Id;
 ghost use mathlib.Core.Path.{_≡_};
 ghost use Prim.Native.Nat.{_+_, _≤_};
 ghost use lib.ListN.{length, set};
 ghost use Rattle.words.specs.Ids.{wordsAt};
+ghost use Rattle.entries.specs.Layout.{costOf};
 ghost use Rattle.host.specs.Host.{strategyOf};
 ghost use Rattle.host.specs.State.{lowHalf, configOf, countsOf, sumsOf, passOf, stateOf, sourceOf, verdictOf, submissionOf, leftWords};
 ghost use Rattle.host.specs.Starts.{Cleared};
+ghost use Rattle.host.specs.Changes.{txOf};
 
 pub const STATE_WORDS: usize = 25;
 
 pub const SUBMISSION_WORDS: usize = 11;
+
+pub const TX_WORDS: usize = 13;
 
 // ---- single words
 
@@ -209,5 +216,37 @@ pub fn load_submission(s: &[u64]) -> Submission
         preheader,
         source,
         verdict,
+    }
+}
+
+// ---- a transaction that is given back
+
+// 0 is unmeasured, any other word measured.
+fn measured_of(kind: u64, cost: u64) -> ValidationCost
+    ensures { λ r. ⌜ r ≡ costOf kind cost ⌝ }
+{
+    if kind == 0 {
+        return ValidationCost::Unmeasured;
+    }
+    ValidationCost::Measured(cost)
+}
+
+pub fn load_tx(s: &[u64]) -> UnconfirmedTx
+    requires { ⌜ 13 ≤ length (now s) ⌝ }
+    ensures { λ r. ⌜ r ≡ txOf (now (s .entry)) ⌝ }
+{
+    let id = id_at(s, 0);
+    let cost = low_half(s[6]);
+    let validation_cost = measured_of(s[7], s[8]);
+    let source = source_of(s[11], s[12]);
+    UnconfirmedTx {
+        id,
+        fee: s[4],
+        size: s[5],
+        cost,
+        validation_cost,
+        created: s[9],
+        last_checked: s[10],
+        source,
     }
 }

@@ -10,14 +10,29 @@
 //     u64 gunthyd_process(u64 *entries, size_t entries_len, u64 *boxes, size_t boxes_len, u64 *cache, size_t cache_len,
 //                         u64 *peers, size_t peers_len, u64 *answer, size_t answer_len, u64 *state, size_t state_len,
 //                         const u64 *sub, size_t sub_len, const u64 *inputs, size_t inputs_len, const u64 *outputs, size_t outputs_len);
+//     u64 gunthyd_return_to_pool(u64 *entries, size_t entries_len, u64 *boxes, size_t boxes_len, u64 *state, size_t state_len,
+//                                const u64 *tx, size_t tx_len, const u64 *inputs, size_t inputs_len, const u64 *outputs, size_t outputs_len);
+//     u64 gunthyd_invalidate(u64 *entries, size_t entries_len, u64 *boxes, size_t boxes_len, u64 *cache, size_t cache_len,
+//                            u64 *state, size_t state_len, u64 time, u64 a, u64 b, u64 c, u64 d);
+//     u64 gunthyd_start_stats(u64 *stats, size_t stats_len, u64 time);
+//     u64 gunthyd_apply_block_at(u64 *entries, size_t entries_len, u64 *boxes, size_t boxes_len, u64 *cache, size_t cache_len,
+//                                u64 *answer, size_t answer_len, u64 *state, size_t state_len, u64 *stats, size_t stats_len, u64 time,
+//                                const u64 *transactions, size_t transactions_len, const u64 *inputs, size_t inputs_len);
 //     u64 gunthyd_len(const u64 *state, size_t state_len);
 //     u64 gunthyd_contains(const u64 *entries, size_t entries_len, const u64 *cache, size_t cache_len, const u64 *state, size_t state_len,
 //                          u64 time, u64 a, u64 b, u64 c, u64 d);
 //     u64 gunthyd_spending_tx(const u64 *entries, size_t entries_len, const u64 *boxes, size_t boxes_len, const u64 *state, size_t state_len,
 //                             u64 *answer, size_t answer_len, u64 a, u64 b, u64 c, u64 d);
 //     u64 gunthyd_top(const u64 *entries, size_t entries_len, const u64 *state, size_t state_len, u64 *answer, size_t answer_len, size_t limit);
+//     u64 gunthyd_recommended_fee(const u64 *state, size_t state_len, const u64 *stats, size_t stats_len, u64 *answer, size_t answer_len,
+//                                 uint32_t minutes, uint32_t size);
+//     u64 gunthyd_expected_wait_ms_at(const u64 *entries, size_t entries_len, const u64 *state, size_t state_len, const u64 *stats, size_t stats_len,
+//                                     u64 *answer, size_t answer_len, u64 time, u64 fee, uint32_t size);
+//     u64 gunthyd_pool_histogram_at(const u64 *entries, size_t entries_len, const u64 *state, size_t state_len, u64 *answer, size_t answer_len,
+//                                   u64 time, uint32_t bins, u64 longest);
 //
 // a, b, c, d are an id's four words, the first bytes first. Lent tables: entries 14 words each, boxes 10, cache 5, peers 2 (docs/DECISIONS.md, D1).
+// Lists: inputs 4 words each; outputs 7 of a submission, 5 of a return; transactions of a block 5 (D3, D4).
 //
 //     state, 25 words                                   a submission, 11 words
 //      0 capacity               9 pooled                 0 time
@@ -34,17 +49,31 @@
 //                              23 spent
 //                              24 ids written by the last changing call
 //
-//     answers of start and process                      answers of queries
-//     0 ready, accepted                                 len: the number pooled; top: how many entries were written
-//     100 replaced, word 24 ids written                 contains: 1 yes, 0 no
-//     101 verdict needed                                spending_tx: 1 written to the first 6 words, 0 none
-//     n refusal n; at 29 word 24 ids written            2^64-1-n refusal n
+//     the statistics, 124 words                         a transaction that is given back, 13 words
+//       0 to 59 counts by minute                         0 to 3 id                7 validation cost: 0 unmeasured
+//      60 to 119 sums of bases by minute                 4 fee                    8 its number
+//     120 window_start                                   5 size                   9 created
+//     121 taken                                          6 cost (low 32 bits)    10 last checked
+//     122 snap_time                                                              11 source: 0 local, else a peer
+//     123 snap_taken                                                             12 peer
 //
-// Too few words of a state or a submission are refusal 1, and nothing changes. Start takes its settings from words 0 to 8 and clears 9 to 24;
-// process changes 9 to 13 and 24, and no other word of the state.
+//     answers of calls that change the pool             answers of queries
+//     0 ready, accepted, returned, invalidated          len: the number pooled; top: how many entries were written
+//     100 replaced, applied: word 24 ids written        contains: 1 yes, 0 no
+//     101 verdict needed                                spending_tx: 1 written to the first 6 words, 0 none
+//     n refusal n; at 29 word 24 ids written            recommended_fee, expected_wait_ms_at: 1 written to the first word
+//                                                       pool_histogram_at: how many pairs were written
+//                                                       2^64-1-n refusal n
+//
+// Too few words of a state, of statistics, of a submission or of a transaction are refusal 1, and nothing changes. Start takes its settings from
+// words 0 to 8 and clears 9 to 24; start_stats empties the statistics, their window at `time`; any other changing call changes 9 to 13 and 24, and
+// no other word of the state.
+pub mod changes;
 pub mod codes;
+pub mod fee_queries;
 pub mod layout;
 pub mod queries;
+pub mod statistics;
 
 use crate::codes::code_of;
 use crate::codes::written_of;

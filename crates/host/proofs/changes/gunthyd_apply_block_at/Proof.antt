@@ -1,0 +1,50 @@
+-- `gunthyd_apply_block_at` meets its contract: too few words change nothing, else the block is applied. Assumes nothing.
+use Rattle.host.specs.Changes.{block-few, block-few-stats, block-ran}
+use borrow.Author.Needs.{needs}
+use Rattle.host.proofs.changes.gunthyd_apply_block_at.Statement.{statement}
+use Rattle.host.proofs.changes.gunthyd_apply_block_at.Tie as tie
+
+returns : tie.Need-returns
+returns c = block-few _ _ _ _ _ _ _ _ _ (c .if1 .taken)
+
+returns-2 : tie.Need-returns-2
+returns-2 c = block-few-stats _ _ _ _ _ _ _ _ _ (c .if2 .taken)
+
+apply-requires : tie.Need-apply-requires
+apply-requires c κs = search needs
+
+same-length : tie.Need-same-length
+same-length c = search needs
+
+same-length-2 : tie.Need-same-length-2
+same-length-2 c = search needs
+
+same-length-3 : tie.Need-same-length-3
+same-length-3 c = search needs
+
+same-length-4 : tie.Need-same-length-4
+same-length-4 c = search needs
+
+same-length-5 : tie.Need-same-length-5
+same-length-5 c = search needs
+
+same-length-6 : tie.Need-same-length-6
+same-length-6 c = search needs
+
+returns-3 : tie.Need-returns-3
+returns-3 c = block-ran (c .before .before .before .before .before .before .before .before .before .before .before .before .before .before .before .before .before .before .before .before .if1 .left) (c .before .before .before .before .before .before .before .before .before .before .before .before .before .before .before .before .before .before .before .if2 .left) (c .before .before .before .before .before .before .before .before .before .before .before .before .apply .ensures)
+
+pub gunthyd-apply-block-at-spec : {M : Type 1} → statement M
+gunthyd-apply-block-at-spec =
+    tie.close
+    (tie.spec
+    returns
+    returns-2
+    apply-requires
+    same-length
+    same-length-2
+    same-length-3
+    same-length-4
+    same-length-5
+    same-length-6
+    returns-3)

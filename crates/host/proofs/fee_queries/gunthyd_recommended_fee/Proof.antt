@@ -1,0 +1,61 @@
+-- `gunthyd_recommended_fee` meets its contract: what recommended_fee says of the state and the statistics that were read. Assumes nothing.
+use Rattle.fees.specs.Fees.{recommended}
+use Rattle.host.specs.Fees.{figure-few, figure-few-stats, figure-room, figure-by}
+use borrow.Author.Needs.{needs}
+use Rattle.host.proofs.fee_queries.gunthyd_recommended_fee.Statement.{statement}
+use Rattle.host.proofs.fee_queries.gunthyd_recommended_fee.Tie as tie
+
+sub-result : tie.Need-sub-result
+sub-result c = search needs
+
+returns : tie.Need-returns
+returns c = figure-few _ _ _ _ (c .if1 .taken)
+
+sub-result-2 : tie.Need-sub-result-2
+sub-result-2 c = search needs
+
+returns-2 : tie.Need-returns-2
+returns-2 c = figure-few-stats _ _ _ _ (c .before .if1 .left) (c .if2 .taken)
+
+sub-result-3 : tie.Need-sub-result-3
+sub-result-3 c = search needs
+
+returns-3 : tie.Need-returns-3
+returns-3 c = figure-room _ _ _ _ (c .before .before .if1 .left) (c .before .if2 .left) (c .if3 .taken)
+
+load-state-requires : tie.Need-load-state-requires
+load-state-requires c κs = search needs
+
+load-stats-requires : tie.Need-load-stats-requires
+load-stats-requires c κs = search needs
+
+recommended-fee-requires : tie.Need-recommended-fee-requires
+recommended-fee-requires c κs = search needs
+
+put-number-requires : tie.Need-put-number-requires
+put-number-requires c κs = search needs
+
+same-length : tie.Need-same-length
+same-length c = search needs
+
+returns-4 : tie.Need-returns-4
+returns-4 c =
+    let a = c .before .before .before .before .before .before .before .before .before .before .before .before .before .args in
+    figure-by _ _ _ (λ v st. recommended v st (a .minutes) (a .size)) _ (c .before .before .before .before .before .before .before .before .before .if1 .left) (c .before .before .before .before .before .before .before .before .if2 .left) (c .before .before .before .before .before .before .before .if3 .left) (c .before .before .before .before .before .load-stats .ensures) (c .before .before .before .before .before .before .load-state .ensures) (c .before .before .before .recommended-fee .ensures) (c .before .before .put-number .ensures)
+
+pub gunthyd-recommended-fee-spec : {M : Type 1} → statement M
+gunthyd-recommended-fee-spec =
+    tie.close
+    (tie.spec
+    sub-result
+    returns
+    sub-result-2
+    returns-2
+    sub-result-3
+    returns-3
+    load-state-requires
+    load-stats-requires
+    recommended-fee-requires
+    put-number-requires
+    same-length
+    returns-4)
