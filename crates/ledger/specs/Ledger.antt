@@ -1,0 +1,215 @@
+-- The ledger of demand 3 (document 01, "Demand 3"): "fed the start's settings and each call's arguments and outcome, nothing else. It holds transactions ..
+-- with their credits, the charges, both indexes by the pool's rule, and the id that next gave last." No definition of a call of the pool is used here,
+-- and no answer buffer: losers, evicted ones, those a block removes and the walk are reckoned on the ledger's own book. Shared words are the types of
+-- arguments and outcomes, how flat words are read as ids (`idsOf`), outputs as a fee (`feeOf`) and a block's two lists as transactions (`confirmedOf`),
+-- and the base (`feePerFactor`).
+use Prim.Native.Nat.{ℕ, max}
+use mathlib.Core.Path.{_≡_, refl}
+use mathlib.Core.Bool.{Bool, true, false, _||_}
+use mathlib.Core.List.{List, [], _∷_}
+use lib.Dec.{eqb}
+use Rattle.words.specs.Lists.{pick}
+use Rattle.words.specs.Ids.{idOf}
+use Rattle.pool_types.specs.declared.MempoolConfig.{MempoolConfig}
+use Rattle.pool_types.specs.declared.Submission.{Submission}
+use Rattle.pool_types.specs.declared.Verdict.{Verdict}
+use Rattle.pool_types.specs.declared.Verdict.the-variants.{Valid, Invalid, Absent}
+use Rattle.pool_types.specs.Outcomes.{Outcome, refused, done, wrote, needed, candidate, ended, missing, invalid, valid, number, said, entry, none}
+use Rattle.weight.specs.Weight.{feePerFactor}
+use Rattle.arguments.specs.Arguments.{feeOf}
+use Rattle.boxes.specs.Flat.{idsOf}
+use Rattle.returns.specs.declared.UnconfirmedTx.{UnconfirmedTx}
+use Rattle.blocks.specs.Blocks.{Confirmed, confirmedOf}
+use Rattle.ledger.specs.Book.{Book, book, enters, leaves, allLeave, losersLeave, admits, confirms}
+use Rattle.ledger.specs.Charges.{Charge, charges}
+
+-- ---- the calls, with their arguments
+
+-- the queries, which change nothing
+pub data Query : Type 0 where
+  Len : Query
+  -- time, id
+  Contains : ℕ → ℕ → Query
+  -- box
+  Spending : ℕ → Query
+  -- how many at most, or all
+  Top : ℕ → Query
+  All : Query
+  -- minutes, size
+  Fee : ℕ → ℕ → Query
+  -- time, fee, size
+  Wait : ℕ → ℕ → ℕ → Query
+  -- time, bins, longest wait
+  Histogram : ℕ → ℕ → ℕ → Query
+  -- the words of the confirmed boxes
+  Rebroadcast : List ℕ → Query
+
+pub data Call : Type 0 where
+  -- a submission with the words of its inputs and outputs
+  Submit : Submission → List ℕ → List ℕ → Call
+  -- a return with the words of its inputs and outputs
+  Return : UnconfirmedTx → List ℕ → List ℕ → Call
+  -- time, and the words of a block's transactions and of their inputs
+  Block : ℕ → List ℕ → List ℕ → Call
+  -- time, id
+  Invalidate : ℕ → ℕ → Call
+  -- time, limit, preheader
+  Open : ℕ → ℕ → ℕ → Call
+  Next : Call
+  -- the words of the flags, and the verdict
+  Answer : List ℕ → Verdict → Call
+  -- time, settings: one that is refused
+  Start : ℕ → MempoolConfig → Call
+  Ask : Query → Call
+
+-- ---- the ledger
+
+pub record Ledger : Type 0 where
+  pub book : Book
+  -- since the last block, the last first
+  pub charged : List Charge
+  -- "the id that next gave last": none, or one
+  pub given : List ℕ
+
+abbrev pub emptyLedger : Ledger
+emptyLedger = record { book = book [] [] []; charged = []; given = [] }
+
+abbrev pub withBook : Book → Ledger → Ledger
+withBook b l = record { book = b; charged = l .charged; given = l .given }
+
+abbrev pub withGiven : List ℕ → Ledger → Ledger
+withGiven ks l = record { book = l .book; charged = l .charged; given = ks }
+
+-- ---- a submission
+
+-- "At most 500 visits"
+abbrev pub visitCap : ℕ
+visitCap = 500
+
+-- "Cost = max(verdict cost, size)"; only a valid verdict has a cost
+abbrev pub verdictCost : Verdict → ℕ
+verdictCost (Valid c) = c
+verdictCost Invalid = 0
+verdictCost Absent = 0
+
+abbrev pub costOf : Submission → ℕ
+costOf a = max (verdictCost (a .verdict)) (a .size)
+
+-- its base: "Fee = sum of flagged values"
+abbrev pub baseOf : MempoolConfig → Submission → List ℕ → ℕ
+baseOf g a outs = feePerFactor (g .«fee_strategy») (feeOf outs) (a .size) (costOf a)
+
+-- "Outcomes `Accepted`, `Replaced`, 10, 29 and 30 charge a remote submission its cost"
+unfoldable pub chargeFor : Submission → Ledger → Ledger
+chargeFor a l = record { book = l .book; charged = charges (a .source) (costOf a) (l .charged); given = l .given }
+
+-- "`Accepted`, `Replaced` .. enters one, without credits; a submission's walk then runs on the ledger"
+unfoldable pub admitted : MempoolConfig → Submission → List ℕ → List ℕ → Ledger → Ledger
+admitted g a ins outs l =
+    withBook (admits visitCap (g .capacity) (idOf (a .id)) (baseOf g a outs) (idsOf 5 ins) (idsOf 7 outs) (l .book)) (chargeFor a l)
+
+-- "Losers (at 30 too) .. leave"
+unfoldable pub turnedAway : ℕ → Submission → List ℕ → Ledger → Ledger
+turnedAway n a ins l =
+    pick (eqb n 10 || eqb n 29) (chargeFor a l)
+    (pick (eqb n 30) (withBook (losersLeave (idsOf 5 ins) (l .book)) (chargeFor a l)) l)
+
+unfoldable pub submitted : MempoolConfig → Submission → List ℕ → List ℕ → Outcome → Ledger → Ledger
+submitted g a ins outs done l = admitted g a ins outs l
+submitted g a ins outs (wrote n) l = admitted g a ins outs l
+submitted g a ins outs (refused n k) l = turnedAway n a ins l
+submitted g a ins outs needed l = l
+submitted g a ins outs (candidate k) l = l
+submitted g a ins outs (ended n) l = l
+submitted g a ins outs (missing k) l = l
+submitted g a ins outs (invalid k) l = l
+submitted g a ins outs (valid k) l = l
+submitted g a ins outs (number n) l = l
+submitted g a ins outs (said t) l = l
+submitted g a ins outs (entry k w b) l = l
+submitted g a ins outs none l = l
+
+-- ---- what is not refused
+
+abbrev pub isRefused : Outcome → Bool
+isRefused (refused n k) = true
+isRefused done = false
+isRefused (wrote n) = false
+isRefused needed = false
+isRefused (candidate k) = false
+isRefused (ended n) = false
+isRefused (missing k) = false
+isRefused (invalid k) = false
+isRefused (valid k) = false
+isRefused (number n) = false
+isRefused (said t) = false
+isRefused (entry k w b) = false
+isRefused none = false
+
+-- "a return not refused enters one, without credits": its base by the fee, size and cost that it brings
+unfoldable pub returned : MempoolConfig → UnconfirmedTx → List ℕ → List ℕ → Ledger → Ledger
+returned g u ins outs l =
+    withBook (enters (idOf (u .id)) (feePerFactor (g .«fee_strategy») (u .fee) (u .size) (u .cost)) (idsOf 4 ins) (idsOf 5 outs) (l .book)) l
+
+-- "those a block removes leave"; "a block not refused clears the charges"
+abbrev pub confirmsAll : List Confirmed → Book → Book
+confirmsAll [] b = b
+confirmsAll (t ∷ ts) b = confirmsAll ts (confirms (t .id) (t .inputs) b)
+
+unfoldable pub mined : List ℕ → List ℕ → Ledger → Ledger
+mined txs ins l = record { book = confirmsAll (confirmedOf txs ins) (l .book); charged = []; given = l .given }
+
+-- ---- a pass: next gives an id, and one that failed leaves: an input found nowhere, or found invalid
+
+unfoldable pub offered : Outcome → Ledger → Ledger
+offered (candidate k) l = withGiven (k ∷ []) l
+offered (refused n k) l = l
+offered done l = l
+offered (wrote n) l = l
+offered needed l = l
+offered (ended n) l = l
+offered (missing k) l = l
+offered (invalid k) l = l
+offered (valid k) l = l
+offered (number n) l = l
+offered (said t) l = l
+offered (entry k w b) l = l
+offered none l = l
+
+unfoldable pub failed : Outcome → Ledger → Ledger
+failed (missing k) l = withBook (allLeave (l .given) (l .book)) l
+failed (invalid k) l = withBook (allLeave (l .given) (l .book)) l
+failed (candidate k) l = l
+failed (refused n k) l = l
+failed done l = l
+failed (wrote n) l = l
+failed needed l = l
+failed (ended n) l = l
+failed (valid k) l = l
+failed (number n) l = l
+failed (said t) l = l
+failed (entry k w b) l = l
+failed none l = l
+
+-- ---- one call with its outcome; "All else changes nothing."
+
+unfoldable pub ledger : MempoolConfig → Call → Outcome → Ledger → Ledger
+ledger g (Submit a ins outs) o l = submitted g a ins outs o l
+ledger g (Return u ins outs) o l = pick (isRefused o) l (returned g u ins outs l)
+ledger g (Block time txs ins) o l = pick (isRefused o) l (mined txs ins l)
+ledger g (Invalidate time k) o l = pick (isRefused o) l (withBook (leaves k (l .book)) l)
+ledger g (Open time limit preheader) o l = l
+ledger g Next o l = offered o l
+ledger g (Answer flags v) o l = failed o l
+ledger g (Start time c) o l = l
+ledger g (Ask q) o l = l
+
+-- ---- lists of calls with their outcomes, the last first
+
+pub record Heard : Type 0 where
+  pub call : Call
+  pub outcome : Outcome
+
+abbrev pub told : MempoolConfig → List Heard → Ledger
+told g [] = emptyLedger
+told g (x ∷ h) = ledger g (x .call) (x .outcome) (told g h)

@@ -1,0 +1,271 @@
+-- Demand 3 (document 01): over every list of calls from what an accepted start left, the pool is what the ledger says.
+use Prim.Native.Nat.{ℕ, _^_, _≤_, _<_, max}
+use mathlib.Core.Path.{_≡_, refl, sym, ap, ap₂, _∙_, subst}
+use mathlib.Core.Bool.{Bool, true, false, not, _&&_}
+use mathlib.Core.List.{List, [], _∷_, map, map-map}
+use native.Mathlib.Omega.{arith}
+use lib.Dec.{eqb, leb, ltb}
+use lib.ListN.{length}
+use borrow.Author.Tests.{leb-true, ltb-false, eqb-true, eqb-false}
+use Rattle.words.specs.Lists.{pick, count}
+use Rattle.words.specs.Find.{found}
+use Rattle.words.specs.Ids.{idOf}
+use Rattle.pool_types.specs.declared.Mempool.{Mempool}
+use Rattle.pool_types.specs.declared.MempoolConfig.{MempoolConfig}
+use Rattle.pool_types.specs.declared.Submission.{Submission}
+use Rattle.pool_types.specs.declared.StartOutcome.{StartOutcome}
+use Rattle.pool_types.specs.declared.StartOutcome.the-variants.{Ready, NotStarted}
+use Rattle.pool_types.specs.Outcomes.{Outcome, refused, done, wrote, needed, candidate, ended, missing, invalid, valid, number, said, entry, none}
+use Rattle.entries.specs.Entries.{Entry, pooled}
+use Rattle.boxes.specs.Records.{BoxRec, Pair, index, inputsOf}
+use Rattle.boxes.specs.Among.{among}
+use Rattle.pool.specs.Pool.{Tables}
+use Rattle.words.specs.Tables.{of-none}
+use Rattle.entries.specs.Layout.{entries}
+use Rattle.entries.specs.Layout.{ok-room as entries-room}
+use Rattle.boxes.specs.Layout.{boxes}
+use Rattle.boxes.specs.Layout.{room-ok as boxes-room}
+use Rattle.expiring_cache.specs.Layout.{ok-room as cache-room}
+use Rattle.store.specs.Fits.{goes-on, un-not}
+use Rattle.mempool.specs.Start.{Sizes, sized, settled, within, empty, started}
+use Rattle.lent.specs.Lent.{LentFits}
+use Rattle.ledger.specs.Book.{Tx, Book, inBook, insOf, outsOf, weightOf, walks}
+use Rattle.ledger.specs.Charges.{Fair}
+use Rattle.ledger.specs.ChargeLaws.{in-among}
+use Rattle.ledger.specs.Same.{Brief, briefOf, viewOf, SameBook}
+use Rattle.ledger.specs.SameLaws.{same-none as book-none}
+use Rattle.ledger.specs.SameCharges.{same-none as charges-none}
+use Rattle.ledger.specs.Uses.{outputsOf}
+use Rattle.ledger.specs.Readings.{Named, found-same, ids-once, in-strict-order, length-same, pooled-same, weights-same, bases-same, inputs-same, outputs-same, named-spender, named-producer}
+use Rattle.ledger.specs.BookCredits.{credits-for-chains}
+use Rattle.ledger.specs.Ledger.{Call, Submit, Return, Block, Invalidate, Open, Next, Answer, Start, Ask, Ledger, Heard, told, ledger, visitCap, baseOf}
+use Rattle.ledger.specs.Run.{Moment, worldAt, FitsAt, sizesAt, Step, Run, begin, call}
+use Rattle.ledger.specs.Demand3.{Known, pooledAs, heldAs, Names, entered, OncePerChain, CreditsChains, Limits, ofSubmission, everySubmission, Demand3}
+use Rattle.ledger.specs.Agrees.{Bounds, SameWorld, Agrees}
+use Rattle.ledger.specs.AgreesSubmission.{submission-agrees}
+use Rattle.ledger.specs.AgreesCalls.{return-agrees, invalidation-agrees, block-agrees}
+use Rattle.ledger.specs.AgreesPasses.{open-agrees, next-agrees, answer-agrees}
+
+-- ---- one call
+
+module _ (g : MempoolConfig) (bounds : Bounds g) (m k : Moment) (l : Ledger) (o : Outcome) (s : Agrees g m l) where
+  stays : k ≡ m → Agrees g k l
+  stays e = subst (λ x. Agrees g x l) (sym e) s
+
+  step-agrees : (c : Call) → Step c o m k → Agrees g k (ledger g c o l)
+  unfolding ledger
+  step-agrees (Submit a ins outs) x = submission-agrees g bounds m k l a ins outs o s x .0
+  step-agrees (Return u ins outs) x = return-agrees g m k l u ins outs o s x
+  step-agrees (Block time txs ins) x = block-agrees g m k l time txs ins o s x
+  step-agrees (Invalidate time j) x = invalidation-agrees g m k l time j o s x
+  step-agrees (Open time limit preheader) x = open-agrees g m k l o s time limit preheader x
+  step-agrees Next x = next-agrees g m k l o s x
+  step-agrees (Answer flags v) x = answer-agrees g m k l o s flags v x
+  step-agrees (Start time c) x = stays (x .same)
+  step-agrees (Ask q) x = stays (x .same)
+
+  step-limits : (c : Call) → Step c o m k → ofSubmission (λ a ins outs. Limits g (a .source) o (l .charged)) c
+  step-limits (Submit a ins outs) x = submission-agrees g bounds m k l a ins outs o s x .1
+  step-limits (Return u ins outs) x = tt
+  step-limits (Block time txs ins) x = tt
+  step-limits (Invalidate time j) x = tt
+  step-limits (Open time limit preheader) x = tt
+  step-limits Next x = tt
+  step-limits (Answer flags v) x = tt
+  step-limits (Start time c) x = tt
+  step-limits (Ask q) x = tt
+
+-- ---- the walks, on the ledger alone
+
+credits-chains : (g : MempoolConfig) (a : Submission) (ins outs : List ℕ) (o : Outcome) (l : Ledger) → CreditsChains g a ins outs o l
+credits-chains g a ins outs done l = λ e longest h j. credits-for-chains _ _ _ _ e longest h j
+credits-chains g a ins outs (wrote n) l = λ e longest h j. credits-for-chains _ _ _ _ e longest h j
+credits-chains g a ins outs (refused n k) l = tt
+credits-chains g a ins outs needed l = tt
+credits-chains g a ins outs (candidate k) l = tt
+credits-chains g a ins outs (ended n) l = tt
+credits-chains g a ins outs (missing k) l = tt
+credits-chains g a ins outs (invalid k) l = tt
+credits-chains g a ins outs (valid k) l = tt
+credits-chains g a ins outs (number n) l = tt
+credits-chains g a ins outs (said t) l = tt
+credits-chains g a ins outs (entry k w b) l = tt
+credits-chains g a ins outs none l = tt
+
+call-chains : (g : MempoolConfig) (c : Call) (o : Outcome) (l : Ledger) → ofSubmission (λ a ins outs. CreditsChains g a ins outs o l) c
+call-chains g (Submit a ins outs) o l = credits-chains g a ins outs o l
+call-chains g (Return u ins outs) o l = tt
+call-chains g (Block time txs ins) o l = tt
+call-chains g (Invalidate time j) o l = tt
+call-chains g (Open time limit preheader) o l = tt
+call-chains g Next o l = tt
+call-chains g (Answer flags v) o l = tt
+call-chains g (Start time c) o l = tt
+call-chains g (Ask q) o l = tt
+
+every-chain : (g : MempoolConfig) (h : List Heard) → everySubmission (CreditsChains g) g h
+every-chain g [] = tt
+every-chain g (x ∷ h) = (call-chains g (x .call) (x .outcome) (told g h), every-chain g h)
+
+-- ---- what an accepted start left
+
+module _ (m : Moment) (g : MempoolConfig) (e : Ready (m .state) ≡ started (sizesAt m) g) where
+  no-ready : {A : Type 0} (n : ℕ) → Ready (m .state) ≡ NotStarted n → A
+  no-ready n q = let z : _≡_ {A = ℕ} 0 1 = cc in absurd (omega arith)
+
+  record Accepted : Type 0 where
+    size : sized (sizesAt m) ≡ true
+    fine : settled (sizesAt m) g ≡ true
+    state : m .state ≡ empty g
+
+  accepted : Accepted
+  unfolding started
+  accepted = go (sized (sizesAt m)) refl (settled (sizesAt m) g) refl e
+    where
+      go : (t : Bool) → sized (sizesAt m) ≡ t → (u : Bool) → settled (sizesAt m) g ≡ u → Ready (m .state) ≡ pick t (pick u (Ready (empty g)) (NotStarted 6)) (NotStarted 6) → Accepted
+      go true p true q z = record { size = p; fine = q; state = cc }
+      go true p false q z = no-ready 6 z
+      go false p u q z = no-ready 6 z
+
+  pub bounds-of : 1 ≤ g .«cost_per_peer_per_block» → Bounds g
+  unfolding settled
+  bounds-of one =
+      let p = goes-on (leb (sizesAt m .entries) (g .capacity)) _ (accepted .fine) in
+      let q = goes-on (ltb (sizesAt m .cache) (g .«invalidation_capacity»)) _ (p .1) in
+      let r = goes-on (ltb 9223372036854775808 (g .«cost_per_block»)) _ (q .1) in
+      record { block = ltb-false _ _ (r .0); peer = leb-true _ _ (r .1); one = one }
+
+  start-fits : FitsAt m
+  unfolding sized settled empty
+  start-fits =
+      let p = goes-on (not (within (sizesAt m .entries) 4096)) _ (accepted .size) in
+      let q = goes-on (not (within (sizesAt m .boxes) 65536)) _ (p .1) in
+      let r = goes-on (not (within (sizesAt m .cache) 10000)) _ (q .1) in
+      let j = goes-on (leb (sizesAt m .entries) (g .capacity)) _ (accepted .fine) in
+      let k = goes-on (ltb (sizesAt m .cache) (g .«invalidation_capacity»)) _ (j .1) in
+      rw (accepted .state)
+      (record {
+        ready =
+            record {
+              tests = record { pool = record { entries = entries-room (m .entries) 0 (omega arith); boxes = boxes-room (m .boxes) 0 (omega arith) }; cache = cache-room (m .cache) 0 (omega arith) };
+              keeps = fits-cache (g .«invalidation_capacity») _ (within-one _ _ (un-not _ (r .0))) (ltb-false _ _ (k .0));
+              used = omega arith;
+            };
+        records = omega (arith, eqb-true (length (m .peers)) 256 (r .1));
+      })
+    where
+      within-one : (n most : ℕ) → within n most ≡ true → 1 ≤ n
+      within-one n most h = by (eqb n 0) refl h
+        where
+          by : (t : Bool) → eqb n 0 ≡ t → pick t false (leb n most) ≡ true → 1 ≤ n
+          by true p z = let y : _≡_ {A = ℕ} 0 1 = cc in absurd (omega arith)
+          by false p z = let y : n ≡ 0 → ⊥ = eqb-false n 0 p in omega (arith, y)
+
+      fits-cache : (a b : ℕ) → 1 ≤ b → a ≤ b → max a 1 ≤ b
+      fits-cache a b p q = omega arith
+
+  start-agrees : Agrees g m (told g [])
+  unfolding empty
+  start-agrees =
+      record {
+        fits = start-fits;
+        config = ap (λ (x : Mempool). x .config) (accepted .state);
+        world =
+            record {
+              book = rw (accepted .state, of-none entries (m .entries), of-none boxes (m .boxes)) book-none;
+              charges = rw (accepted .state) charges-none;
+              fair = tt;
+            };
+        given = rw (accepted .state) (λ z. let y : _≡_ {A = ℕ} 0 1 = cc in absurd (omega arith));
+      }
+
+-- ---- a list of calls
+
+pub record Told (g : MempoolConfig) (h : List Heard) (m : Moment) : Type 0 where
+  pub bounds : Bounds g
+  pub agrees : Agrees g m (told g h)
+  pub limits : everySubmission (λ a ins outs o l. Limits g (a .source) o (l .charged)) g h
+
+pub run-told : (g : MempoolConfig) {h : List Heard} {m : Moment} → Run g h m → Told g h m
+run-told g (begin m e one) = record { bounds = bounds-of m g e one; agrees = start-agrees m g e; limits = tt }
+run-told g (call {h = h} {m = m} c o n r x) = go (run-told g r)
+  where
+    go : Told g h m → Told g (record { call = c; outcome = o } ∷ h) n
+    go t = record {
+      bounds = t .bounds;
+      agrees = step-agrees g (t .bounds) m n (told g h) o (t .agrees) c x;
+      limits = (step-limits g (t .bounds) m n (told g h) o (t .agrees) c x, t .limits);
+    }
+
+-- ---- what the agreement says of pool and ledger
+
+abbrev own : Tx → Known
+own x = record { id = x .id; base = x .base; ins = x .ins; outs = x .outs }
+
+abbrev readBy : List Tx → ℕ → Tx → Known
+readBy ts k x = record { id = x .id; base = x .base; ins = insOf k ts; outs = outsOf k ts }
+
+-- one that was found by its id has that id
+by-id : (ts : List Tx) (k : ℕ) (us : List Tx) → map (λ x. readBy ts (x .id) x) (found (λ x. x .id) k us) ≡ map (readBy ts k) (found (λ x. x .id) k us)
+by-id ts k [] = refl
+by-id ts k (u ∷ us) = go (eqb (u .id) k) refl (by-id ts k us)
+  where
+    go : (t : Bool) → eqb (u .id) k ≡ t → map (λ x. readBy ts (x .id) x) (found (λ x. x .id) k us) ≡ map (readBy ts k) (found (λ x. x .id) k us)
+        → map (λ x. readBy ts (x .id) x) (pick t (u ∷ []) (found (λ x. x .id) k us)) ≡ map (readBy ts k) (pick t (u ∷ []) (found (λ x. x .id) k us))
+    go true q h = ap (λ j. readBy ts j u ∷ []) (eqb-true (u .id) k q)
+    go false q h = h
+
+-- and the boxes found by that id are its own
+by-own : (k : ℕ) (ts : List Tx) → map (readBy ts k) (found (λ x. x .id) k ts) ≡ map own (found (λ x. x .id) k ts)
+by-own k [] = refl
+by-own k (t ∷ ts) = go (eqb (t .id) k) (by-own k ts)
+  where
+    go : (u : Bool) → map (readBy ts k) (found (λ x. x .id) k ts) ≡ map own (found (λ x. x .id) k ts)
+        → map {B = Known} (λ x. record { id = x .id; base = x .base; ins = pick u (t .ins) (insOf k ts); outs = pick u (t .outs) (outsOf k ts) }) (pick u (t ∷ []) (found (λ x. x .id) k ts))
+        ≡ map own (pick u (t ∷ []) (found (λ x. x .id) k ts))
+    go true h = refl
+    go false h = h
+
+module _ (t : Tables) (b : Book) (s : SameBook t b) where
+  -- a transaction as the book holds it, its boxes read by its id
+  abbrev read : Brief → Known
+  read x = record { id = x .id; base = x .base; ins = insOf (x .id) (b .txs); outs = outsOf (x .id) (b .txs) }
+
+  -- as entry and records have it
+  as-read : _≡_ {A = Entry → Known} (λ e. record { id = e .id; base = e .base; ins = inputsOf (e .id) (t .boxes); outs = outputsOf (e .id) (t .boxes) }) (λ e. read (briefOf e))
+  as-read = λ i e. record { id = e .id; base = e .base; ins = inputs-same t b s (e .id) i; outs = outputs-same t b s (e .id) i }
+
+  pub known : (k : ℕ) → pooledAs k t ≡ heldAs k b
+  known k =
+      ap (λ (f : Entry → Known). map f (found (λ e. e .id) k (t .entries))) as-read
+      ∙ sym (map-map read briefOf (found (λ e. e .id) k (t .entries)))
+      ∙ ap (map read) (found-same t b s k)
+      ∙ map-map read viewOf (found (λ x. x .id) k (b .txs))
+      ∙ by-id (b .txs) k (b .txs)
+      ∙ by-own k (b .txs)
+
+  named-by : (f : ℕ → List BoxRec → List ℕ) (h : ℕ → List Tx → List ℕ) → ((k : ℕ) → f k (t .boxes) ≡ h k (b .txs)) → (ps : List Pair) → Named h (b .txs) ps → Names f t ps
+  named-by f h q [] n = tt
+  named-by f h q (p ∷ ps) n = (pooled-same t b s (p .id) ∙ n .0, in-among (p .box) (f (p .id) (t .boxes)) (rw (q (p .id)) (n .1)), named-by f h q ps (n .2))
+
+-- Demand 3.
+pub demand3 : (g : MempoolConfig) (h : List Heard) (m : Moment) → Run g h m → Demand3 g h m
+demand3 g h m r =
+    let z = run-told g r in
+    let t : Tables = worldAt m .tables in
+    let b : Book = told g h .book in
+    let s : SameBook t b = z .agrees .world .book in
+    record {
+      ids-distinct = ids-once t b s;
+      as-many = length-same t b s;
+      transactions = known t b s;
+      spenders = s .spenders;
+      producers = s .producers;
+      order = in-strict-order t b s;
+      named-spenders = rw (s .spenders) (named-by t b s inputsOf insOf (inputs-same t b s) (b .spenders) (named-spender t b s));
+      named-producers = rw (s .producers) (named-by t b s outputsOf outsOf (outputs-same t b s) (b .producers) (named-producer t b s));
+      weights = weights-same t b s;
+      chains = every-chain g h;
+      charges = z .agrees .world .fair;
+      refusals = z .limits;
+    }

@@ -1,0 +1,1 @@
+// The ledger has no code of its own: its theorem stands in specs/.
