@@ -146,7 +146,7 @@ missing-edges : (told two (passing 111 3 true 2) (0 ∷ []) (Valid 7)
     ≡ record { outcome = missing 2; world = store (insertTx third (6 ∷ []) [] (record { entries = []; boxes = [] })); pass = passing 111 11 false 2 })
     × (told two (passing 111 3 true 2) (0 ∷ []) Absent .outcome ≡ missing 2)
     × (told two (passing 111 3 true 3) (0 ∷ []) Absent .pass ≡ passing 111 3 false 3)
-unfolding answered answerRefusal lacksInput resolvedBy answeredWith ahead
+unfolding answered answerRefusal lacksInput weighed resolvedBy answeredWith ahead
 missing-edges = (refl, refl, refl)
 
 -- "The sum stops at 2^64−1"

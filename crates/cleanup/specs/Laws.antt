@@ -19,7 +19,7 @@ use Rattle.pool_types.specs.declared.NextOutcome.the-variants.{Candidate, Ended
 use Rattle.pool_types.specs.declared.AnswerOutcome.the-variants.{InputMissing, AnswerNeeded, FoundInvalid, FoundValid, NotAnswered}
 use Rattle.pool_types.specs.declared.Verdict.{Verdict}
 use Rattle.pool_types.specs.declared.Verdict.the-variants.{Valid, Invalid, Absent}
-use Rattle.pool_types.specs.Outcomes.{Outcome, refused, openedOf, nextOf, answeredOf}
+use Rattle.pool_types.specs.Outcomes.{Outcome, refused, candidate, openedOf, nextOf, answeredOf}
 use Rattle.expiring_cache.specs.Layout.{room-still}
 use Rattle.entries.specs.Entries.{Entry, placeOf, stamped}
 use Rattle.entries.specs.Layout.{entryAt, entriesOf, entriesRoom, entries, room-ok}
@@ -132,10 +132,10 @@ module _ (st : Mempool) where
   next-unfit e b k p h f = absurd (omega (arith, room-ok e (st .counts .pooled) (f .tests .pool .entries)))
 
   -- a candidate is out
-  pub next-again : not (st .pass .open) ≡ false → st .pass .out ≡ true → (e b k p : List ℕ) → Fits e b k p st
-      → PassPost st st (nextOf (Candidate (st .pass .candidate))) e b k p (nexted (st .config) (worldOf e b k p st) (passOf (st .pass)))
-  unfolding nexted nextOf
-  next-again h i e b k p f = post-as (no _ _ _ h ∙ yes _ _ _ i) (post-still e b k p st _ _ f refl)
+  pub next-again : not (st .pass .open) ≡ false → st .pass .out ≡ true → (e b k p : List ℕ) → Fits e b k p st → {o : Outcome} → o ≡ candidate (idOf (st .pass .candidate))
+      → PassPost st st o e b k p (nexted (st .config) (worldOf e b k p st) (passOf (st .pass)))
+  unfolding nexted
+  next-again h i e b k p f q = post-as (no _ _ _ h ∙ yes _ _ _ i) (post-still e b k p st _ _ f q)
 
   -- none is: the search decides
   module _ (e : List ℕ) (h : not (st .pass .open) ≡ false) (i : st .pass .out ≡ false) {r : Place} (s : Sought e (st .counts .pooled) (st .config .«cleanup_interval») (passOf (st .pass)) r) where

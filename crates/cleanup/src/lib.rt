@@ -120,6 +120,13 @@ fn is_due(interval: u64, time: u64, checked: u64) -> bool
     interval < saturating_sub(time, checked)
 }
 
+// Whether the sum has reached the limit.
+fn has_reached(spent: u64, limit: u64) -> bool
+    ensures { λ r. ⌜ r ≡ leb limit spent ⌝ }
+{
+    limit <= spent
+}
+
 // Whether an output is ahead of the preheader: heights are read as signed.
 fn is_ahead(key: u64, preheader: u32) -> bool
     ensures { λ r. ⌜ r ≡ aheadOf key preheader ⌝ }
@@ -142,7 +149,7 @@ fn look_at(entries: &[u64], i: usize, interval: u64, pass: Pass) -> Look
     if !is_due(interval, pass.time, last_checked_at(entries, i)) {
         return Look::Over;
     }
-    if pass.limit <= pass.spent {
+    if has_reached(pass.spent, pass.limit) {
         return Look::Stop;
     }
     if is_ahead(height_key_at(entries, i), pass.preheader) {

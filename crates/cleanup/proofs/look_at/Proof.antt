@@ -1,6 +1,5 @@
 -- `cleanup::look_at` meets its contract: each return is the chain of `looked`, answered by the tests before it and its own. Assumes nothing.
 use borrow.Author.Needs.{needs}
-use borrow.Author.Tests.{le-leb, lt-leb}
 use mathlib.Core.Path.{sym, ap, _∙_}
 use mathlib.Core.Bool.{not}
 use Rattle.words.specs.Lists.{yes, no}
@@ -18,9 +17,12 @@ returns : tie.Need-returns
 unfolding looked
 returns c = sym (yes _ _ _ (ap not (due-by _ _ _ _ (c .before .is-due .ensures) (c .before .before .last-checked-at .ensures)) ∙ c .if1 .taken))
 
+has-reached-requires : tie.Need-has-reached-requires
+has-reached-requires c κs = search needs
+
 returns-2 : tie.Need-returns-2
 unfolding looked
-returns-2 c = sym (no _ _ _ (ap not (due-by _ _ _ _ (c .before .before .before .is-due .ensures) (c .before .before .before .before .last-checked-at .ensures)) ∙ c .before .before .if1 .left) ∙ yes _ _ _ (le-leb _ _ (c .if2 .taken)))
+returns-2 c = sym (no _ _ _ (ap not (due-by _ _ _ _ (c .before .before .before .is-due .ensures) (c .before .before .before .before .last-checked-at .ensures)) ∙ c .before .before .if1 .left) ∙ yes _ _ _ (sym (c .before .has-reached .ensures) ∙ c .if2 .taken))
 
 height-key-at-requires : tie.Need-height-key-at-requires
 height-key-at-requires c κs = search needs
@@ -33,7 +35,7 @@ unfolding looked
 returns-3 c =
     sym (
     no _ _ _ (ap not (due-by _ _ _ _ (c .before .before .before .before .before .before .is-due .ensures) (c .before .before .before .before .before .before .before .last-checked-at .ensures)) ∙ c .before .before .before .before .before .if1 .left) ∙
-    no _ _ _ (lt-leb _ _ (c .before .before .before .if2 .left)) ∙
+    no _ _ _ (sym (c .before .before .before .before .has-reached .ensures) ∙ c .before .before .before .if2 .left) ∙
     yes _ _ _ (ahead-by (c .before .before .before .before .before .before .before .before .before .args .pass .preheader) (c .before .is-ahead .ensures) (c .before .before .height-key-at .ensures) ∙ c .if3 .taken))
 
 returns-4 : tie.Need-returns-4
@@ -41,7 +43,7 @@ unfolding looked
 returns-4 c =
     sym (
     no _ _ _ (ap not (due-by _ _ _ _ (c .before .before .before .before .before .before .is-due .ensures) (c .before .before .before .before .before .before .before .last-checked-at .ensures)) ∙ c .before .before .before .before .before .if1 .left) ∙
-    no _ _ _ (lt-leb _ _ (c .before .before .before .if2 .left)) ∙
+    no _ _ _ (sym (c .before .before .before .before .has-reached .ensures) ∙ c .before .before .before .if2 .left) ∙
     no _ _ _ (ahead-by (c .before .before .before .before .before .before .before .before .before .args .pass .preheader) (c .before .is-ahead .ensures) (c .before .before .height-key-at .ensures) ∙ c .if3 .left))
 
 pub look-at-spec : {M : Type 1} → statement M
@@ -51,6 +53,7 @@ look-at-spec =
     last-checked-at-requires
     is-due-requires
     returns
+    has-reached-requires
     returns-2
     height-key-at-requires
     is-ahead-requires

@@ -21,8 +21,8 @@ unfolding ofNext nextOf
 returns-2 c = (λ b k p f. next-unfit _ _ b k p (omega arith) f, (refl, (refl, λ _. untouched _ _ _ _ (rw (c .before .before .if1 .left)))))
 
 returns-3 : tie.Need-returns-3
-unfolding ofNext
-returns-3 c = (next-again _ (c .before .before .before .before .if1 .left) (c .before .if3 .taken) _, (refl, (refl, λ q. next-fits (c .before .before .before .before .before .before .before .before .args .mempool .counts .pooled) (c .before .before .before .entries-room .result) (c .before .before .before .entries-room .ensures) (omega arith) q)))
+unfolding ofNext nextOf
+returns-3 c = (λ b k p f. next-again _ (c .before .before .before .before .if1 .left) (c .before .if3 .taken) _ b k p f refl, (refl, (refl, λ q. next-fits (c .before .before .before .before .before .before .before .before .args .mempool .counts .pooled) (c .before .before .before .entries-room .result) (c .before .before .before .entries-room .ensures) (omega arith) q)))
 
 first-due-requires : tie.Need-first-due-requires
 first-due-requires c κs = ok-room _ _ (omega arith)
