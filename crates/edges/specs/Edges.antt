@@ -1,5 +1,5 @@
 -- Document 01, "Each edge (* proved)": the starred cases as one table, and one theorem that computes over it. A row has what the definitions give
--- and what document 01 says; a yes is 1, a no is 0. "Age equal to interval: not due; one more: due" is a case of passes, which are not there yet.
+-- and what document 01 says; a yes is 1, a no is 0.
 use Prim.Native.Nat.{ℕ, zero, suc, _+_, _*_}
 use mathlib.Core.Path.{_≡_, refl}
 use mathlib.Core.Bool.{Bool, true, false, _&&_}
@@ -25,6 +25,7 @@ use Rattle.pool.specs.Pool.{Tables}
 use Rattle.checks.specs.Checks.{listRefusal}
 use Rattle.admit.specs.Admit.{loses}
 use Rattle.fees.specs.Fees.{binOf}
+use Rattle.cleanup.specs.Passes.{due}
 
 pub record Row : Type 0 where
   pub got : ℕ
@@ -36,6 +37,10 @@ is g d = record { got = g; due = d }
 abbrev yes? : Bool → ℕ
 yes? true = 1
 yes? false = 0
+
+-- an entry checked last at 1,000, at a pass's time, with an interval of 500
+abbrev dueAt : ℕ → ℕ
+dueAt time = yes? (due 500 time 1000)
 
 -- an id held since 1,000, asked at a time
 abbrev heldAt : ℕ → ℕ
@@ -82,6 +87,9 @@ starred =
     -- "Conflicts 10 and 15: 12 loses, 13 wins"
     ∷ is (losesTo 12) 1
     ∷ is (losesTo 13) 0
+    -- "Age equal to interval: not due; one more: due"
+    ∷ is (dueAt 1500) 0
+    ∷ is (dueAt 1501) 1
     -- "Age equal to ttl: not held"
     ∷ is (heldAt 1500) 0
     ∷ is (heldAt 1499) 1
@@ -107,7 +115,7 @@ agree (r ∷ rs) = eqb (r .got) (r .due) && agree rs
 
 -- Every row of the table is as document 01 says: computed.
 pub starred-cases : agree starred ≡ true
-unfolding starred fresh confirmed counted binned loses listRefusal
+unfolding starred fresh confirmed counted binned loses listRefusal due
 starred-cases = refl
 
 -- .. and so is the row at each place
