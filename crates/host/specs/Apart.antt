@@ -1,9 +1,9 @@
 -- What the answered numbers tell: the number of a submission is always one of a submission, and with the number of ids written it tells the
--- outcome; the number of a query that was refused is no count.
+-- outcome; that of a return, an invalidation and a block is always one of theirs; the number of a query that was refused is no count.
 use Prim.Native.Nat.{ℕ, _*_, _-_, _^_, _≤_, _<_}
 use mathlib.Core.Path.{_≡_, refl, sym, ap, _∙_}
 use mathlib.Core.Bool.{Bool, true, false, _||_}
-use mathlib.Core.List.{List, _∷_}
+use mathlib.Core.List.{List, [], _∷_}
 use native.Mathlib.Omega.{arith}
 use native.Mathlib.Decide.{decLt}
 use lib.Dec.{eqb}
@@ -11,11 +11,20 @@ use lib.ListN.{length}
 use borrow.Author.Tests.{ne-eqb}
 use Rattle.words.specs.Lists.{pick}
 use Rattle.words.specs.Sums.{cap}
-use Rattle.pool_types.specs.Outcomes.{Outcome, processedOf, refused, done, wrote, needed, candidate, ended, missing, invalid, valid, number, said, entry, none}
+use Rattle.pool_types.specs.declared.ReturnOutcome.{ReturnOutcome}
+use Rattle.pool_types.specs.declared.ReturnOutcome.the-variants.{Returned, NotReturned}
+use Rattle.pool_types.specs.declared.InvalidateOutcome.{InvalidateOutcome}
+use Rattle.pool_types.specs.declared.InvalidateOutcome.the-variants.{Invalidated, NotInvalidated}
+use Rattle.pool_types.specs.declared.BlockOutcome.{BlockOutcome}
+use Rattle.pool_types.specs.declared.BlockOutcome.the-variants.{Removed, NotApplied}
+use Rattle.pool_types.specs.Outcomes.{Outcome, processedOf, returnedOf, invalidatedOf, blockOf, refused, done, wrote, needed, candidate, ended, missing, invalid, valid, number, said, entry, none}
 use Rattle.boxes.specs.Among.{among, among-cons}
 use Rattle.process.specs.Numbers.{refusals, ofSubmission}
+use Rattle.returns.specs.Numbers.{returnRefusals, ofReturn, ofInvalidation}
+use Rattle.blocks.specs.Numbers.{ofBlock}
 use Rattle.host.specs.Codes.{codeOf, writtenOf}
 use Rattle.host.specs.Calls.{Lent, Submitted}
+use Rattle.host.specs.Changes.{ReturnCall, InvalidateCall, BlockCall}
 
 differ : {A : Type 0} → false ≡ true → A
 differ e = let z : _≡_ {A = ℕ} 0 1 = cc in absurd (omega arith)
@@ -86,6 +95,54 @@ told-apart (number n) h = differ h
 told-apart (said b) h = differ h
 told-apart (entry k w b) h = differ h
 told-apart none h = differ h
+
+-- ---- a return and an invalidation are done with 0, a block with 100; else they answer one of their own refusals
+
+or-true : (b : Bool) → (b || true) ≡ true
+or-true true = refl
+or-true false = refl
+
+one-more : (n m : ℕ) (l : List ℕ) → among n l ≡ true → among n (m ∷ l) ≡ true
+one-more n m l h = among-cons n m l ∙ ap (λ (t : Bool). eqb m n || t) h ∙ or-true (eqb m n)
+
+return-code : (o : ReturnOutcome) → ofReturn o ≡ true → among (codeOf (returnedOf o)) (0 ∷ returnRefusals) ≡ true
+unfolding ofReturn returnedOf codeOf
+return-code Returned h = refl
+return-code (NotReturned n) h = one-more n 0 returnRefusals h
+
+invalidate-code : (o : InvalidateOutcome) → ofInvalidation o ≡ true → among (codeOf (invalidatedOf o)) (0 ∷ 20 ∷ 1 ∷ []) ≡ true
+unfolding ofInvalidation invalidatedOf codeOf
+invalidate-code Invalidated h = refl
+invalidate-code (NotInvalidated n) h = one-more n 0 (20 ∷ 1 ∷ []) h
+
+block-code : (o : BlockOutcome) → ofBlock (blockOf o) ≡ true → among (codeOf (blockOf o)) (100 ∷ 20 ∷ 1 ∷ 2 ∷ []) ≡ true
+unfolding ofBlock blockOf codeOf
+block-code (Removed k) h = refl
+block-code (NotApplied n) h = one-more n 100 (20 ∷ 1 ∷ 2 ∷ []) h
+
+pub return-ours : {e₀ e b₀ b s₀ s tx ins outs : List ℕ} {code : ℕ} → ReturnCall e₀ e b₀ b s₀ s tx ins outs code → among code (0 ∷ returnRefusals) ≡ true
+return-ours {s₀ = s₀} {tx = tx} {code = code} r = go (decLt (length s₀) 25) (decLt (length tx) 13)
+  where
+    go : Dec (length s₀ < 25) → Dec (length tx < 13) → among code (0 ∷ returnRefusals) ≡ true
+    go (yes p) q = rw (r .shortState p .answered)
+    go (no p) (yes q) = rw (r .shortTx q .answered)
+    go (no p) (no q) = let a = r .ran (omega (arith, p)) (omega (arith, q)) in rw (a .left .answered) (return-code (a .outcome) (a .ours))
+
+pub invalidate-ours : {e₀ e b₀ b k₀ k s₀ s : List ℕ} {time id code : ℕ} → InvalidateCall e₀ e b₀ b k₀ k s₀ s time id code → among code (0 ∷ 20 ∷ 1 ∷ []) ≡ true
+invalidate-ours {s₀ = s₀} {code = code} r = go (decLt (length s₀) 25)
+  where
+    go : Dec (length s₀ < 25) → among code (0 ∷ 20 ∷ 1 ∷ []) ≡ true
+    go (yes p) = rw (r .short p .answered)
+    go (no p) = let a = r .ran (omega (arith, p)) in rw (a .left .answered) (invalidate-code (a .outcome) (a .ours))
+
+pub block-ours : {e₀ e b₀ b k₀ k a₀ a s₀ s t₀ t : List ℕ} {time : ℕ} {txs ins : List ℕ} {code : ℕ} → BlockCall e₀ e b₀ b k₀ k a₀ a s₀ s t₀ t time txs ins code
+    → among code (100 ∷ 20 ∷ 1 ∷ 2 ∷ []) ≡ true
+block-ours {s₀ = s₀} {t₀ = t₀} {code = code} r = go (decLt (length s₀) 25) (decLt (length t₀) 124)
+  where
+    go : Dec (length s₀ < 25) → Dec (length t₀ < 124) → among code (100 ∷ 20 ∷ 1 ∷ 2 ∷ []) ≡ true
+    go (yes p) q = rw (r .shortState p .answered)
+    go (no p) (yes q) = rw (r .shortStats q .answered)
+    go (no p) (no q) = let a = r .ran (omega (arith, p)) (omega (arith, q)) in rw (a .left .answered) (block-code (a .outcome) (a .ours))
 
 -- ---- a query
 
