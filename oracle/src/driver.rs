@@ -139,7 +139,7 @@ impl Stop {
     }
 }
 
-type Answer = Result<String, Stop>;
+pub type Answer = Result<String, Stop>;
 
 impl Driver {
     pub fn on(store: Store) -> Driver {
@@ -153,17 +153,7 @@ impl Driver {
             return Reply { text, form: "unread", end: false };
         };
         let name = form.name();
-        if changes(&form) {
-            // A refused or `verdict needed` call has written nothing either;
-            // without a pool there is nothing to forget.
-            self.written.clear();
-        }
-        let answer = match (form, &mut self.pool) {
-            (Form::Pool(settings), _) => self.start(&settings).map(|()| "(ready)".into()),
-            (_, None) => Ok("(no pool)".into()),
-            (form, Some(pool)) => pool.call(form, &mut self.written),
-        };
-        let (text, end) = match answer {
+        let (text, end) = match self.ask(form) {
             Ok(text) => (text, false),
             Err(Stop::Refused(number)) => (format!("(refused {number})"), false),
             Err(Stop::VerdictNeeded) => ("(verdict needed)".into(), false),
@@ -173,24 +163,27 @@ impl Driver {
         Reply { text, form: name, end }
     }
 
+    /// What a form does, and the answer's text where it is neither refused nor stopped.
+    pub fn ask(&mut self, form: Form) -> Answer {
+        if changes(&form) {
+            // A refused or `verdict needed` call has written nothing either;
+            // without a pool there is nothing to forget.
+            self.written.clear();
+        }
+        match (form, &mut self.pool) {
+            (Form::Pool(settings), _) => self.start(&settings).map(|()| "(ready)".into()),
+            (_, None) => Ok("(no pool)".into()),
+            (form, Some(pool)) => pool.call(form, &mut self.written),
+        }
+    }
+
     /// What the form `pool` does.
     pub fn start(&mut self, s: &Settings) -> Result<(), Stop> {
         let limits = s.block_limit.max(s.peer_limit);
         refuse_if(s.capacity > self.store.entries as u64 - 1, 6)?;
         refuse_if(s.cache > self.store.cache_ids as u64 || limits > LARGEST_LIMIT, 6)?;
         clock::set(0);
-        let mempool = Mempool::new(MempoolConfig {
-            capacity: s.capacity as usize,
-            min_fee: s.min_fee,
-            fee_strategy: if s.by_cycle { FeeStrategy::FeePerCycle } else { FeeStrategy::FeePerByte },
-            cleanup_interval: Duration::from_millis(s.interval),
-            rebroadcast_count: s.rebroadcast as usize,
-            invalidation_ttl: Duration::from_millis(s.ttl),
-            invalidation_capacity: s.cache as usize,
-            cost_per_block: s.block_limit,
-            cost_per_peer_per_block: s.peer_limit,
-            reward_delay: 720,
-        });
+        let mempool = Mempool::new(config(s));
         self.pool = Some(Pool { store: self.store, mempool, charged: Vec::new(), pass: None });
         Ok(())
     }
@@ -209,6 +202,11 @@ impl Driver {
     /// The ids that the last changing call wrote.
     pub fn written(&self) -> &[Id] {
         &self.written
+    }
+
+    /// A changing call that never came to the pool wrote nothing.
+    pub fn forget(&mut self) {
+        self.written.clear();
     }
 
     /// The peers that were charged since the last block, in the order of their
@@ -239,6 +237,45 @@ impl Driver {
             }),
         });
         Driver { store: self.store, line: self.line, pool, written: self.written.clone() }
+    }
+}
+
+/// A return as the Rust takes it.
+pub fn given_back(r: &Return) -> UnconfirmedTx {
+    let paid = |(box_id, height): &(Id, u32)| {
+        ergo_box(&Output { box_id: *box_id, value: 0, fee: false, height: *height })
+    };
+    UnconfirmedTx {
+        tx: Transaction::stand_in(r.id, &r.inputs, r.outputs.iter().map(paid).collect()),
+        tx_bytes: vec![0u8; r.size as usize].into(),
+        id_version: ErgoTreeVersion,
+        fee: r.fee,
+        cost: r.cost,
+        validation_cost: r.measured,
+        created: Instant::at(r.created),
+        last_checked: Instant::at(r.checked),
+        source: r.peer,
+    }
+}
+
+/// A block's transactions as the Rust takes them.
+pub fn confirmed(txs: &[(Id, Vec<Id>)]) -> Vec<Transaction> {
+    txs.iter().map(|(id, inputs)| Transaction::stand_in(*id, inputs, Vec::new())).collect()
+}
+
+/// The settings as the Rust takes them.
+pub fn config(s: &Settings) -> MempoolConfig {
+    MempoolConfig {
+        capacity: s.capacity as usize,
+        min_fee: s.min_fee,
+        fee_strategy: if s.by_cycle { FeeStrategy::FeePerCycle } else { FeeStrategy::FeePerByte },
+        cleanup_interval: Duration::from_millis(s.interval),
+        rebroadcast_count: s.rebroadcast as usize,
+        invalidation_ttl: Duration::from_millis(s.ttl),
+        invalidation_capacity: s.cache as usize,
+        cost_per_block: s.block_limit,
+        cost_per_peer_per_block: s.peer_limit,
+        reward_delay: 720,
     }
 }
 
@@ -420,20 +457,7 @@ impl Pool {
         refuse_if(r.size > MAX_TRANSACTION_SIZE as u64, 3)?;
         refuse_if(self.mempool.get(&r.id).is_some(), ALREADY_IN_POOL)?;
         self.store_has(r.inputs.len() + r.outputs.len())?;
-        let paid = |(box_id, height): &(Id, u32)| {
-            ergo_box(&Output { box_id: *box_id, value: 0, fee: false, height: *height })
-        };
-        let utx = UnconfirmedTx {
-            tx: Transaction::stand_in(r.id, &r.inputs, r.outputs.iter().map(paid).collect()),
-            tx_bytes: vec![0u8; r.size as usize].into(),
-            id_version: ErgoTreeVersion,
-            fee: r.fee,
-            cost: r.cost,
-            validation_cost: r.measured,
-            created: Instant::at(r.created),
-            last_checked: Instant::at(r.checked),
-            source: r.peer,
-        };
+        let utx = given_back(r);
         guarded(|| self.mempool.return_to_pool(vec![utx]))?;
         Ok(format!("(returned {})", hex(&r.id)))
     }
@@ -441,8 +465,7 @@ impl Pool {
     fn block(&mut self, time: u64, txs: &[(Id, Vec<Id>)], written: &mut Vec<Id>) -> Answer {
         refuse_if(self.pass.is_some(), 20)?;
         clock::set(time);
-        let txs: Vec<Transaction> =
-            txs.iter().map(|(id, inputs)| Transaction::stand_in(*id, inputs, Vec::new())).collect();
+        let txs = confirmed(txs);
         let removed = guarded(|| self.mempool.apply_block_at(Instant::at(time), &txs))?;
         self.charged.clear();
         *written = removed;

@@ -1,4 +1,5 @@
 //! The port and the Rust in one driver: same inputs, same machine, both built for release. It prints ratios.
+mod others;
 mod submission;
 
 use std::collections::HashMap;
@@ -87,5 +88,13 @@ fn main() {
         let all = whole[i][0];
         let (times, share) = (all / base, found[i] / all * 100.0);
         println!("among {pooled:5} pooled: {times:.0} base weights; the lookup is {share:.1} % of it");
+    }
+    println!("blocks and returns (both sides agree on every answer and on the pool that is left)");
+    others::block(1_000);
+    others::returns(1_000);
+
+    println!("fee queries (both sides agree on every answer)");
+    for pooled in [1_000, 4_000] {
+        others::fees(pooled);
     }
 }

@@ -3,13 +3,12 @@
 use std::hint::black_box;
 use std::time::Instant;
 
-use clock::Duration;
 use ergo_lib::chain::transaction::Transaction;
 use ergo_lib::ergotree_ir::ergo_tree::ErgoTreeVersion;
-use ergo_mempool::types::{FeeStrategy, MempoolConfig, ProcessingOutcome};
+use ergo_mempool::types::ProcessingOutcome;
 use ergo_mempool::Mempool;
 use ergo_validation::ErgoStateContext;
-use oracle::driver::{context, judge, transaction, Flags};
+use oracle::driver::{config, context, judge, transaction, Flags};
 use oracle::forms::{Id, Output, Settings, Tx, Verdict};
 use oracle::rng::Rng;
 use port::{id_of, Port, Submission, FULL};
@@ -18,6 +17,8 @@ use port::{id_of, Port, Submission, FULL};
 const CALLS: usize = 40;
 const ROUNDS: usize = 60;
 const PARENTS: usize = 20;
+/// Of a pool that does not get full.
+pub const CAPACITY: usize = 4_095;
 const SIZE: usize = 300;
 
 #[derive(Clone, Copy, PartialEq, Eq)]
@@ -40,10 +41,10 @@ impl Kind {
 }
 
 /// Both pools and what makes their submissions.
-struct Pools {
-    rng: Rng,
-    rust: Mempool,
-    port: Port,
+pub struct Pools {
+    pub rng: Rng,
+    pub rust: Mempool,
+    pub port: Port,
 }
 
 /// A submission as the Rust takes it, made before the clock runs. The pool keeps what it takes; the rest is dropped after.
@@ -69,7 +70,7 @@ impl Call {
 }
 
 impl Pools {
-    fn new(capacity: usize) -> Pools {
+    pub fn new(capacity: usize) -> Pools {
         let settings = Settings {
             capacity: capacity as u64,
             min_fee: 1_000,
@@ -81,18 +82,8 @@ impl Pools {
             block_limit: 12_000_000,
             peer_limit: 10_000_000,
         };
-        let rust = Mempool::new(MempoolConfig {
-            capacity,
-            min_fee: settings.min_fee,
-            fee_strategy: FeeStrategy::FeePerByte,
-            cleanup_interval: Duration::from_millis(settings.interval),
-            rebroadcast_count: settings.rebroadcast as usize,
-            invalidation_ttl: Duration::from_millis(settings.ttl),
-            invalidation_capacity: settings.cache as usize,
-            cost_per_block: settings.block_limit,
-            cost_per_peer_per_block: settings.peer_limit,
-            reward_delay: 720,
-        });
+        clock::set(0);
+        let rust = Mempool::new(config(&settings));
         let mut port = Port::new(FULL);
         assert_eq!(port.start(&settings), 0);
         Pools { rng: Rng::new(5), rust, port }
@@ -103,7 +94,7 @@ impl Pools {
     }
 
     /// 2 inputs, of which one may be a pooled box, and so many outputs.
-    fn tx(&mut self, parent: Option<Id>, outputs: usize, fee: u64) -> Tx {
+    pub fn tx(&mut self, parent: Option<Id>, outputs: usize, fee: u64) -> Tx {
         let first = parent.unwrap_or_else(|| self.id());
         let inputs = vec![(first, parent.is_none()), (self.id(), true)];
         let outputs = (0..outputs)
@@ -115,16 +106,21 @@ impl Pools {
 
     /// Submits to both, which must agree.
     fn submit(&mut self, tx: &Tx) {
+        clock::set(tx.time);
         let here = self.port.process(&Submission::of(tx), FULL.answer_words);
         assert_eq!(outcome(&Call::of(tx).submit(&mut self.rust)), here);
     }
 
-    fn fill(&mut self, pooled: usize) {
+    /// Submits until so many are pooled, and tells what.
+    pub fn fill(&mut self, pooled: usize) -> Vec<Tx> {
+        let mut txs = Vec::new();
         while self.rust.len() < pooled {
             let fee = self.rng.between(1_000_000, 100_000_000);
             let tx = self.tx(None, 3, fee);
             self.submit(&tx);
+            txs.push(tx);
         }
+        txs
     }
 }
 
@@ -136,7 +132,7 @@ fn outcome(outcome: &ProcessingOutcome) -> u64 {
 }
 
 /// Keeps the best nanoseconds of a call.
-fn timed<T>(best: &mut f64, call: impl FnOnce() -> T) -> T {
+pub fn timed<T>(best: &mut f64, call: impl FnOnce() -> T) -> T {
     let began = Instant::now();
     let answer = black_box(call());
     *best = best.min(began.elapsed().as_nanos() as f64);
@@ -145,7 +141,7 @@ fn timed<T>(best: &mut f64, call: impl FnOnce() -> T) -> T {
 
 /// Prints microseconds of both for a pool of this size and gives back the port's nanoseconds.
 pub fn measure(pooled: usize, kind: Kind) -> f64 {
-    let capacity = if kind == Kind::Full { pooled } else { 4_095 };
+    let capacity = if kind == Kind::Full { pooled } else { CAPACITY };
     let mut pools = Pools::new(capacity);
     let mut tail = Vec::new();
     if kind == Kind::Chain {

@@ -4,11 +4,11 @@
 use std::time::Instant;
 
 use oracle::driver::{Driver, Stop, Submitted, PEERS};
-use oracle::forms::{hex, Id, Output, Settings, Tx, Verdict};
+use oracle::forms::{hex, Form, Id, Output, Return, Settings, Tx, Verdict};
 use oracle::rng::Rng;
 use port::{
-    id_of, Port, Row, Submission, ENTRY_WORDS, FULL, ID_WORDS, INPUT_WORDS, OUTPUT_WORDS,
-    RECORD_WORDS,
+    id_of, Block, GivenBack, Port, Row, Submission, APPLIED, BLOCK_TX_WORDS, DONE, ENTRY_WORDS,
+    FULL, ID_WORDS, INPUT_WORDS, OUTPUT_WORDS, RECORD_WORDS, RETURN_OUTPUT_WORDS,
 };
 
 use crate::tally::{self, Tally};
@@ -58,6 +58,20 @@ pub struct Call {
     /// Words of the answer buffer.
     pub room: usize,
     pub in_pass: bool,
+}
+
+/// A return or a block, and how it is handed over: as a submission is.
+pub struct Change {
+    pub form: Form,
+    pub cut: (usize, usize),
+    pub room: usize,
+    pub in_pass: bool,
+}
+
+impl From<Form> for Change {
+    fn from(form: Form) -> Change {
+        Change { form, cut: (0, 0), room: FULL.answer_words, in_pass: false }
+    }
 }
 
 impl From<Tx> for Call {
@@ -143,6 +157,33 @@ impl<'a> Script<'a> {
     /// Boxes that no earlier call named.
     pub fn boxes(&mut self, count: usize) -> Vec<Id> {
         (0..count).map(|_| self.id()).collect()
+    }
+
+    /// A return of what a submission would bring.
+    pub fn back(&mut self, tx: &Tx) -> Return {
+        let fee = tx.outputs.iter().filter(|out| out.fee).map(|out| out.value).sum();
+        let created = self.rng.below(self.time + 1);
+        Return {
+            id: tx.id,
+            fee,
+            size: tx.size,
+            cost: self.rng.below(1 << 20) as u32,
+            measured: self.rng.chance(50).then(|| self.rng.below(1 << 20)),
+            created,
+            checked: self.rng.between(created, self.time),
+            peer: tx.peer,
+            inputs: tx.inputs.iter().map(|(box_id, _)| *box_id).collect(),
+            outputs: tx.outputs.iter().map(|out| (out.box_id, out.height)).collect(),
+        }
+    }
+
+    /// The pooled transactions with their inputs, heaviest first.
+    pub fn pooled(&self) -> Vec<(Id, Vec<Id>)> {
+        let pool = self.rust.view().expect("a pool");
+        let inputs = |utx: &&ergo_mempool::types::UnconfirmedTx| {
+            utx.tx.inputs.iter().map(|input| input.box_id.0).collect()
+        };
+        pool.all_prioritized().iter().map(|utx| (utx.tx.id().0, inputs(utx))).collect()
     }
 
     pub fn len(&self) -> usize {
@@ -242,16 +283,140 @@ impl<'a> Script<'a> {
         self.port.set_pass(false);
 
         self.tally.outcome(there, self.port.len(), self.port.records());
+        self.compare_left(&there.to_string(), &here.to_string(), &ids);
+        there
+    }
+
+    /// What a changing call left: the answers of both, the ids written, the
+    /// counts, and every few calls the pools.
+    fn compare_left(&mut self, there: &str, here: &str, ids: &[Id]) {
         if here != there {
-            self.differ(&format!("the Rust says {there}, the port {here}"));
-        } else if let Some(what) = self.compare_answer(&ids) {
+            self.differ(&format!("the Rust says {}, the port {}", cut(there), cut(here)));
+        } else if let Some(what) = self.compare_answer(ids) {
             self.differ(&what);
         } else if let Some(what) = self.compare_counts() {
             self.differ(&what);
         } else if self.calls % self.every == 0 {
             self.compare_pools();
         }
-        there
+    }
+
+    /// A return, a block or an invalidation on both sides: the answer, the ids
+    /// written, the rest of the answer buffer, and the counts.
+    pub fn change(&mut self, change: Change) -> u64 {
+        if self.over {
+            return OVER;
+        }
+        self.calls += 1;
+        let began = Instant::now();
+        let there = self.changed_there(&change);
+        self.tally.rust += began.elapsed();
+        let there = match answered(there) {
+            Ok(answer) => answer,
+            Err(stop) => return self.ended(stop),
+        };
+        self.port.set_pass(change.in_pass);
+        let (number, here) = self.changed_here(&change);
+        self.port.set_pass(false);
+
+        let ids = self.rust.written().to_vec();
+        self.tally.kind(change.form.name(), number);
+        self.tally.size(self.port.len(), self.port.records());
+        self.compare_left(&there, &here, &ids);
+        number
+    }
+
+    /// What the Rust's side says. Lists that are no whole records, and for a
+    /// block a buffer that is too small, are decided here, in document 01's order.
+    fn changed_there(&mut self, change: &Change) -> Result<String, Stop> {
+        let (widths, room) = match change.form {
+            Form::Return(_) => ((ID_WORDS, RETURN_OUTPUT_WORDS), usize::MAX),
+            Form::Block { .. } => ((BLOCK_TX_WORDS, ID_WORDS), change.room / ID_WORDS),
+            _ => ((1, 1), usize::MAX),
+        };
+        let cut = change.cut.0 % widths.0 != 0 || change.cut.1 % widths.1 != 0;
+        let refused = match (change.in_pass, cut, room < self.len() + 1) {
+            (true, _, _) => 20,
+            (_, true, _) => 1,
+            (_, _, true) => 2,
+            _ => return self.rust.ask(change.form.clone()),
+        };
+        self.rust.forget();
+        Err(Stop::Refused(refused))
+    }
+
+    /// The number that the port answers, and what it says as the Rust's side would.
+    fn changed_here(&mut self, change: &Change) -> (u64, String) {
+        match &change.form {
+            Form::Return(r) => {
+                let mut words = GivenBack::of(r);
+                words.inputs.truncate(words.inputs.len() - change.cut.0);
+                words.outputs.truncate(words.outputs.len() - change.cut.1);
+                let number = self.here(|port| port.return_to_pool(&words));
+                (number, said(number, DONE, || format!("(returned {})", hex(&r.id))))
+            }
+            Form::Block { time, txs } => {
+                let mut words = Block::of(txs);
+                words.transactions.truncate(words.transactions.len() - change.cut.0);
+                words.inputs.truncate(words.inputs.len() - change.cut.1);
+                let number = self.here(|port| port.apply_block_at(*time, &words, change.room));
+                let ids = || self.port.ids().iter().map(|id| format!(" {}", hex(id))).collect::<String>();
+                (number, said(number, APPLIED, || format!("(removed{})", ids())))
+            }
+            Form::Invalidate { time, id } => {
+                let number = self.here(|port| port.invalidate(*time, id));
+                (number, said(number, DONE, || format!("(invalidated {})", hex(id))))
+            }
+            other => panic!("no such call here: {other:?}"),
+        }
+    }
+
+    fn here(&mut self, call: impl FnOnce(&mut Port) -> u64) -> u64 {
+        let began = Instant::now();
+        let number = call(self.port);
+        self.tally.port += began.elapsed();
+        number
+    }
+
+    /// A fee query on both sides.
+    pub fn query(&mut self, form: Form) {
+        if self.over {
+            return;
+        }
+        self.calls += 1;
+        let began = Instant::now();
+        let there = self.rust.ask(form.clone());
+        self.tally.rust += began.elapsed();
+        let there = match answered(there) {
+            Ok(answer) => answer,
+            Err(stop) => {
+                self.ended(stop);
+                return;
+            }
+        };
+        let began = Instant::now();
+        let here = match form {
+            Form::Fee { minutes, size } => {
+                self.port.recommended_fee(minutes, size).map(|fee| format!("(fee {fee})"))
+            }
+            Form::Wait { time, fee, size } => {
+                self.port.expected_wait_ms_at(time, fee, size).map(|wait| format!("(wait {wait})"))
+            }
+            Form::Histogram { time, bins, longest } => {
+                let mut words = vec![0; FULL.answer_words];
+                let pairs = self.port.pool_histogram_at(time, bins, longest, &mut words);
+                let pair = |p: &[u64]| format!(" ({} {})", p[0], p[1]);
+                pairs.map(|n| format!("(bins{})", words.chunks(2).take(n).map(pair).collect::<String>()))
+            }
+            other => panic!("no such query here: {other:?}"),
+        };
+        self.tally.port += began.elapsed();
+        let number = here.as_ref().map_or_else(|refusal| *refusal, |_| 0);
+        self.tally.kind(form.name(), number);
+        let here = here.unwrap_or_else(|refusal| format!("(refused {refusal})"));
+        if here != there {
+            self.differ(&format!("{form:?}: the Rust says {}, the port {}", cut(&there), cut(&here)));
+        }
     }
 
     /// What the Rust says; what it does not have is decided here: a pass, lists
@@ -458,6 +623,24 @@ impl<'a> Script<'a> {
         self.compare_pools();
         self.tally.script(self.calls);
     }
+}
+
+/// An answer's text, a refusal's too.
+fn answered(answer: Result<String, Stop>) -> Result<String, Stop> {
+    match answer {
+        Err(Stop::Refused(number)) => Ok(format!("(refused {number})")),
+        other => other,
+    }
+}
+
+/// A number that the port answers, as the Rust's side says it.
+fn said(number: u64, done: u64, text: impl FnOnce() -> String) -> String {
+    if number == done { text() } else { format!("(refused {number})") }
+}
+
+/// The beginning of an answer, for a message.
+fn cut(text: &str) -> &str {
+    text.get(..200).unwrap_or(text)
 }
 
 /// Settings that keep out of the way.

@@ -1,10 +1,10 @@
 //! The shapes of scripts. Each makes its calls from a seed, while it looks at
 //! what the calls before came to.
 
-use oracle::forms::{Id, Settings, Tx, Verdict};
-use port::{ACCEPTED, FULL, ID_WORDS, REPLACED};
+use oracle::forms::{Form, Id, Settings, Tx, Verdict};
+use port::{ACCEPTED, APPLIED, DONE, FULL, ID_WORDS, REPLACED};
 
-use crate::script::{usual, Call, Script};
+use crate::script::{usual, Call, Change, Script};
 use crate::tally;
 
 pub struct Shape {
@@ -32,6 +32,9 @@ pub const SHAPES: &[Shape] = &[
     Shape { name: "extremes", make: extremes, scripts: 20 },
     Shape { name: "starts", make: starts, scripts: 4 },
     Shape { name: "junk", make: junk, scripts: 8 },
+    Shape { name: "mixed", make: mixed, scripts: 60 },
+    Shape { name: "blocks", make: blocks, scripts: 4 },
+    Shape { name: "returns", make: returns, scripts: 2 },
 ];
 
 /// A submission whose boxes others may spend.
@@ -715,21 +718,18 @@ fn starts(s: &mut Script) {
     for settings in edges {
         s.start(settings);
     }
-    let sizes = [
-        [4_096, 65_536, 10_000, 256],
-        [4_097, 65_536, 10_000, 256],
-        [4_096, 65_537, 10_000, 256],
-        [4_096, 65_536, 10_001, 256],
-        [4_096, 65_536, 10_000, 255],
-        [4_096, 65_536, 10_000, 257],
-        [0, 65_536, 10_000, 256],
-        [4_096, 0, 10_000, 256],
-        [4_096, 65_536, 0, 256],
-        [1, 1, 1, 256],
-        [11, 1, 7, 256],
-        [10, 1, 7, 256],
-        [11, 1, 6, 256],
-    ];
+    // Entries, box records, cache ids and peer records: each as many as there may be, then one table with fewer or more.
+    let largest = [4_096, 65_536, 10_000, 256];
+    let others = [(0, [0, 4_097]), (1, [0, 65_537]), (2, [0, 10_001]), (3, [255, 257])];
+    let mut sizes = vec![largest];
+    for (table, counts) in others {
+        for count in counts {
+            let mut other = largest;
+            other[table] = count;
+            sizes.push(other);
+        }
+    }
+    sizes.extend([[1, 1, 1, 256], [11, 1, 7, 256], [10, 1, 7, 256], [11, 1, 6, 256]]);
     for sizes in sizes {
         let small = Settings { capacity: 10, cache: 7, ..usual() };
         s.start_sized(&small, sizes);
@@ -747,5 +747,217 @@ fn starts(s: &mut Script) {
             s.submit(tx);
         }
         s.compare_pools();
+    }
+}
+
+/// Every call beside one another: submissions and returns out of few boxes and
+/// ids, blocks that confirm pooled and other transactions and spend their
+/// boxes, invalidations, and the fee queries, while the time goes on.
+fn mixed(s: &mut Script) {
+    let settings = Settings {
+        capacity: s.rng.pick(&[3, 40, 400]),
+        by_cycle: s.rng.chance(40),
+        min_fee: s.rng.pick(&[0, 20]),
+        ttl: s.rng.pick(&[0, 60_000, 1_800_000]),
+        cache: s.rng.pick(&[0, 3, 200]),
+        ..usual()
+    };
+    s.start(settings);
+    s.every = 16;
+    let count = s.rng.pick(&[12, 60, 400]);
+    let (boxes, ids) = (s.boxes(count), s.boxes(count * 3));
+    let odd = s.rng.pick(&[0, 2, 10]);
+    for _ in 0..1_000 {
+        // Waits of every minute, and longer ones.
+        let step = s.rng.pick(&[0, 1_000, 59_999, 60_000, 60_001, 400_000]);
+        s.time += s.rng.below(step + 1);
+        match s.rng.below(100) {
+            0..=39 => {
+                let tx = meeting(s, &boxes, &ids, 80);
+                s.submit(tx);
+            }
+            40..=59 => {
+                let tx = meeting(s, &boxes, &ids, 80);
+                give_back(s, &tx, odd);
+            }
+            60..=66 => confirm(s, &boxes, &ids, odd),
+            67..=72 => {
+                let id = any_id(s, &ids);
+                let (time, in_pass) = (s.time, s.rng.chance(odd));
+                s.change(Change { in_pass, ..Form::Invalidate { time, id }.into() });
+            }
+            _ => ask(s),
+        }
+    }
+}
+
+/// A pooled id, or one that may not be.
+fn any_id(s: &mut Script, ids: &[Id]) -> Id {
+    let pooled = s.pooled();
+    if pooled.is_empty() || s.rng.chance(30) {
+        return s.rng.pick(ids);
+    }
+    s.rng.pick(&pooled).0
+}
+
+/// A return of this transaction, at times with faults.
+fn give_back(s: &mut Script, tx: &Tx, odd: u64) -> u64 {
+    let mut back = s.back(tx);
+    if s.rng.chance(odd) {
+        back.size = s.rng.pick(&[0, 98_304, 98_305, u64::MAX]);
+    }
+    let mut change = Change::from(Form::Return(back));
+    let lists = (tx.inputs.len() * 4, tx.outputs.len() * 5);
+    if s.rng.chance(odd) {
+        change.cut.0 = lists.0.min(s.rng.between(1, 3) as usize);
+    }
+    if s.rng.chance(odd) {
+        change.cut.1 = lists.1.min(s.rng.between(1, 4) as usize);
+    }
+    change.in_pass = s.rng.chance(odd / 2);
+    let full = s.len() as u64 >= s.settings.capacity;
+    let number = s.change(change);
+    if full && number == DONE {
+        s.met(tally::OVERFULL);
+    }
+    number
+}
+
+/// A block of pooled transactions and of others, which spend their own inputs,
+/// those of others, or boxes that nobody asked for.
+fn confirm(s: &mut Script, boxes: &[Id], ids: &[Id], odd: u64) {
+    let mut txs = s.pooled();
+    s.rng.shuffle(&mut txs);
+    let most = s.rng.pick(&[0, 1, 5, 60]);
+    txs.truncate(most);
+    for _ in 0..s.rng.below(4) {
+        let id = if s.rng.chance(30) { s.rng.pick(ids) } else { s.id() };
+        let inputs = (0..s.rng.below(4)).map(|_| s.rng.pick(boxes)).collect();
+        txs.push((id, inputs));
+    }
+    if s.rng.chance(10) && !txs.is_empty() {
+        // The same one twice.
+        let again = s.rng.pick(&txs);
+        txs.push(again);
+    }
+    s.rng.shuffle(&mut txs);
+    let lists = (txs.len() * 5, txs.iter().map(|(_, inputs)| inputs.len() * 4).sum::<usize>());
+    let confirmed = txs.len();
+    let mut change = Change::from(Form::Block { time: s.time, txs });
+    if s.rng.chance(odd) {
+        change.cut.0 = lists.0.min(s.rng.between(1, 4) as usize);
+    }
+    if s.rng.chance(odd) {
+        change.cut.1 = lists.1.min(s.rng.between(1, 3) as usize);
+    }
+    if s.rng.chance(odd) {
+        let just = (s.len() + 1) * ID_WORDS;
+        change.room = s.rng.pick(&[0, just - 4, just - 1, just, just + 3]);
+    }
+    change.in_pass = s.rng.chance(odd / 2);
+    let before = s.len();
+    if s.change(change) == APPLIED && before - s.len() > confirmed {
+        s.met(tally::DOUBLE_SPENDS);
+    }
+}
+
+/// One of the fee queries.
+fn ask(s: &mut Script) {
+    let size = s.rng.pick(&[0, 1, 300, 1_024, 98_304, 98_305, u32::MAX]);
+    let time = s.time + s.rng.pick(&[0, 1, 59_999, 60_000, 60_001, 3_600_000]);
+    let form = match s.rng.below(3) {
+        0 => Form::Fee { minutes: s.rng.pick(&[0, 1, 2, 5, 30, 58, 59, 60, u32::MAX]), size },
+        1 => {
+            let shift = s.rng.below(64);
+            Form::Wait { time, fee: s.rng.next() >> shift, size }
+        }
+        _ => {
+            let bins = s.rng.pick(&[0, 1, 2, 7, 60, 8_193, 8_194, u32::MAX]);
+            let longest = s.rng.pick(&[0, 1, 59, 60, 61, 3_600_000, 40_000_000, u64::MAX]);
+            Form::Histogram { time, bins, longest }
+        }
+    };
+    s.query(form);
+}
+
+/// Full pools, of which a block takes thousands; what it took is given back.
+fn blocks(s: &mut Script) {
+    s.start(usual());
+    s.every = 1_024;
+    let mut made: Vec<Tx> = Vec::new();
+    for _ in 0..4_300 {
+        s.time += s.rng.below(900);
+        let mut pooled = Vec::new();
+        if !made.is_empty() && s.rng.chance(20) {
+            let from = s.rng.below(made.len() as u64) as usize;
+            pooled.push(made[from].outputs[0].box_id);
+        }
+        let confirmed = s.boxes(2);
+        let fee = fee(s);
+        let tx = s.tx(&confirmed, &pooled, 1, fee);
+        made.push(tx.clone());
+        s.submit(tx);
+    }
+    for round in 0..6 {
+        for _ in 0..20 {
+            ask(s);
+        }
+        s.time += 61_000;
+        let mut txs = s.pooled();
+        s.rng.shuffle(&mut txs);
+        let full = s.len() >= 4_095;
+        txs.truncate(if round == 0 { 2_000 } else { 300 });
+        for _ in 0..20 {
+            // Not pooled, but it spends what a pooled one does.
+            let rival = s.rng.below(made.len() as u64) as usize;
+            txs.push((s.id(), vec![made[rival].inputs[0].0]));
+        }
+        let form = Form::Block { time: s.time, txs };
+        let before = s.len();
+        s.every = 1;
+        if s.change(form.into()) == APPLIED && full && before - s.len() >= 2_000 {
+            s.met(tally::BIG_BLOCK);
+        }
+        s.every = 256;
+        for at in 0..made.len() {
+            if s.rng.chance(10) && s.weight_of(&made[at].id).is_none() && give_back(s, &made[at], 0) == DONE {
+                s.met(tally::SENT_BACK);
+            }
+        }
+        for _ in 0..20 {
+            let at = s.rng.below(made.len() as u64) as usize;
+            let (time, id) = (s.time, made[at].id);
+            s.change(Form::Invalidate { time, id }.into());
+        }
+    }
+}
+
+/// Returns until the last entry and the last record are used, and more.
+fn returns(s: &mut Script) {
+    let capacity = s.rng.pick(&[0, 100, 4_095]);
+    s.start(Settings { capacity, ..usual() });
+    s.every = 1_024;
+    for _ in 0..4_100 {
+        s.time += s.rng.below(900);
+        let count = s.rng.between(1, 3) as usize;
+        let confirmed = s.boxes(count);
+        let fee = fee(s);
+        let tx = s.tx(&confirmed, &[], 15 - count, fee);
+        give_back(s, &tx, 0);
+    }
+    for _ in 0..60 {
+        ask(s);
+    }
+    let mut txs = s.pooled();
+    txs.truncate(500);
+    let form = Form::Block { time: s.time + 30_000, txs };
+    s.every = 1;
+    s.change(form.into());
+    // Room for one record short, just enough, and the last entry.
+    for records in [16, 17, 7_999, 8_000] {
+        let confirmed = s.boxes(1);
+        let fee = fee(s);
+        let tx = s.tx(&confirmed, &[], records - 2, fee);
+        give_back(s, &tx, 0);
     }
 }

@@ -10,6 +10,16 @@ pub const OUTCOMES: &[u64] =
 /// And of a start.
 const STARTS: &[u64] = &[0, 6];
 
+/// And of the other calls, by the first word of their form: a number stands for a refusal, 0 and 100 for what is none.
+const KINDS: &[(&str, &[u64])] = &[
+    ("return", &[0, 1, 3, 20, 23, 27]),
+    ("block", &[100, 1, 2, 20]),
+    ("invalidate", &[0, 20]),
+    ("fee", &[0, 3]),
+    ("wait", &[0, 3]),
+    ("histogram", &[0, 2, 11]),
+];
+
 /// What else a run has to have met, and how often.
 pub const FULL_POOL: &str = "calls that left 4,095 entries";
 pub const FULL_STORE: &str = "calls that left all 65,536 box records in use";
@@ -25,9 +35,13 @@ pub const WINNERS: &str = "a loser to 4,000 or more";
 pub const ALL_PEERS: &str = "calls that left all 256 peer records in use";
 pub const FULL_CACHE: &str = "10,000 ids in the cache, and more";
 pub const EMPTY: &str = "capacity 0: accepted, pool empty";
+pub const BIG_BLOCK: &str = "a block that takes 2,000 or more out of a full pool";
+pub const DOUBLE_SPENDS: &str = "a block that drives out what it does not confirm";
+pub const OVERFULL: &str = "returns beyond the capacity";
+pub const SENT_BACK: &str = "what a block took, given back";
 const MEETINGS: &[&str] = &[
     FULL_POOL, FULL_STORE, INPUTS, TOO_MANY, WALK, LONG_WALK, DEEP, EVICTS, GONE, LOSERS, WINNERS,
-    ALL_PEERS, FULL_CACHE, EMPTY,
+    ALL_PEERS, FULL_CACHE, EMPTY, BIG_BLOCK, DOUBLE_SPENDS, OVERFULL, SENT_BACK,
 ];
 
 #[derive(Default)]
@@ -36,6 +50,7 @@ pub struct Tally {
     shapes: Vec<(&'static str, Counts)>,
     outcomes: BTreeMap<u64, u64>,
     starts: BTreeMap<u64, u64>,
+    kinds: BTreeMap<&'static str, BTreeMap<u64, u64>>,
     met: BTreeMap<&'static str, u64>,
     disagreements: u64,
     /// Whole pools compared, and samples asked beside them.
@@ -58,6 +73,8 @@ struct Counts {
     replaced: u64,
     needed: u64,
     refused: u64,
+    /// Calls that are neither starts nor submissions.
+    others: u64,
     entries: usize,
     records: usize,
     rust: Duration,
@@ -77,6 +94,12 @@ impl Tally {
         *self.starts.entry(number).or_default() += 1;
     }
 
+    /// An answer of a call that is neither a start nor a submission.
+    pub fn kind(&mut self, name: &'static str, number: u64) {
+        *self.kinds.entry(name).or_default().entry(number).or_default() += 1;
+        self.counts().others += 1;
+    }
+
     pub fn outcome(&mut self, number: u64, entries: usize, records: usize) {
         *self.outcomes.entry(number).or_default() += 1;
         let counts = self.counts();
@@ -86,6 +109,12 @@ impl Tally {
             port::VERDICT_NEEDED => counts.needed += 1,
             _ => counts.refused += 1,
         }
+        self.size(entries, records);
+    }
+
+    /// What a changing call left in use.
+    pub fn size(&mut self, entries: usize, records: usize) {
+        let counts = self.counts();
         counts.entries = counts.entries.max(entries);
         counts.records = counts.records.max(records);
     }
@@ -112,9 +141,9 @@ impl Tally {
     /// run, everything was met.
     pub fn print(&self, all: bool) -> bool {
         println!(
-            "{:10} {:>7} {:>8} {:>8} {:>8} {:>7} {:>8} {:>8} {:>8} {:>8} {:>8}",
-            "shape", "scripts", "calls", "accepted", "replaced", "needed", "refused", "entries",
-            "records", "rust s", "port s"
+            "{:10} {:>7} {:>8} {:>8} {:>8} {:>7} {:>8} {:>8} {:>8} {:>8} {:>8} {:>8}",
+            "shape", "scripts", "calls", "accepted", "replaced", "needed", "refused", "others",
+            "entries", "records", "rust s", "port s"
         );
         let mut total = Counts::default();
         for (name, c) in &self.shapes {
@@ -125,6 +154,7 @@ impl Tally {
             total.replaced += c.replaced;
             total.needed += c.needed;
             total.refused += c.refused;
+            total.others += c.others;
             total.entries = total.entries.max(c.entries);
             total.records = total.records.max(c.records);
             total.rust += c.rust;
@@ -142,6 +172,12 @@ impl Tally {
         list("refusals", &OUTCOMES[3..], &self.outcomes);
         list("starts", STARTS, &self.starts);
         missing.extend(OUTCOMES.iter().filter(|n| counted(&self.outcomes, n) == 0).map(|n| format!("outcome {n}")));
+        let none = BTreeMap::new();
+        for (name, wanted) in KINDS {
+            let seen = self.kinds.get(name).unwrap_or(&none);
+            list(name, wanted, seen);
+            missing.extend(wanted.iter().filter(|n| counted(seen, n) == 0).map(|n| format!("{name} {n}")));
+        }
         missing.extend(STARTS.iter().filter(|n| counted(&self.starts, n) == 0).map(|n| format!("start {n}")));
         for what in MEETINGS {
             let times = self.met.get(what).copied().unwrap_or(0);
@@ -163,13 +199,14 @@ impl Tally {
 
 fn row(name: &str, c: &Counts) {
     println!(
-        "{name:10} {:>7} {:>8} {:>8} {:>8} {:>7} {:>8} {:>8} {:>8} {:>8.1} {:>8.1}",
+        "{name:10} {:>7} {:>8} {:>8} {:>8} {:>7} {:>8} {:>8} {:>8} {:>8} {:>8.1} {:>8.1}",
         c.scripts,
         c.calls,
         c.accepted,
         c.replaced,
         c.needed,
         c.refused,
+        c.others,
         c.entries,
         c.records,
         c.rust.as_secs_f64(),

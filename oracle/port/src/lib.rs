@@ -1,8 +1,8 @@
 //! The proved pool, linked as a static library, over memory that is lent here.
-//! A submission and a start are words; only this file knows which.
+//! What the calls take and answer are words; only this file knows which.
 
 use oracle::driver::{Store, PEERS};
-use oracle::forms::{Id, Settings, Tx, Verdict};
+use oracle::forms::{Id, Return, Settings, Tx, Verdict};
 
 pub const ENTRY_WORDS: usize = 14;
 pub const RECORD_WORDS: usize = 10;
@@ -10,6 +10,10 @@ pub const CACHE_WORDS: usize = 5;
 pub const PEER_WORDS: usize = 2;
 pub const INPUT_WORDS: usize = 5;
 pub const OUTPUT_WORDS: usize = 7;
+/// Of a return: an output is its id and its height.
+pub const RETURN_OUTPUT_WORDS: usize = 5;
+/// Of a block: a transaction is its id and its number of inputs.
+pub const BLOCK_TX_WORDS: usize = 5;
 pub const ID_WORDS: usize = 4;
 /// A listed entry: id, weight, base.
 pub const ROW_WORDS: usize = 6;
@@ -23,10 +27,12 @@ pub const FULL: Store = Store {
     answer_words: 4_097 * ID_WORDS,
 };
 
-// The answers that are no refusals.
+// The answers that are no refusals; a return and an invalidation that are done answer as an accepted submission does.
 pub const ACCEPTED: u64 = 0;
 pub const REPLACED: u64 = 100;
 pub const VERDICT_NEEDED: u64 = 101;
+pub const DONE: u64 = 0;
+pub const APPLIED: u64 = 100;
 
 // Words of the state that no call tells.
 const RECORDS: usize = 10;
@@ -35,6 +41,7 @@ const PEERS_USED: usize = 13;
 const PASS_OPEN: usize = 14;
 const WRITTEN: usize = 24;
 const STATE_WORDS: usize = 25;
+const STATS_WORDS: usize = 124;
 
 extern "C" {
     fn gunthyd_start(
@@ -68,6 +75,89 @@ extern "C" {
         inputs_len: usize,
         outputs: *const u64,
         outputs_len: usize,
+    ) -> u64;
+    fn gunthyd_return_to_pool(
+        entries: *mut u64,
+        entries_len: usize,
+        boxes: *mut u64,
+        boxes_len: usize,
+        state: *mut u64,
+        state_len: usize,
+        tx: *const u64,
+        tx_len: usize,
+        inputs: *const u64,
+        inputs_len: usize,
+        outputs: *const u64,
+        outputs_len: usize,
+    ) -> u64;
+    fn gunthyd_invalidate(
+        entries: *mut u64,
+        entries_len: usize,
+        boxes: *mut u64,
+        boxes_len: usize,
+        cache: *mut u64,
+        cache_len: usize,
+        state: *mut u64,
+        state_len: usize,
+        time: u64,
+        a: u64,
+        b: u64,
+        c: u64,
+        d: u64,
+    ) -> u64;
+    fn gunthyd_start_stats(stats: *mut u64, stats_len: usize, time: u64) -> u64;
+    fn gunthyd_apply_block_at(
+        entries: *mut u64,
+        entries_len: usize,
+        boxes: *mut u64,
+        boxes_len: usize,
+        cache: *mut u64,
+        cache_len: usize,
+        answer: *mut u64,
+        answer_len: usize,
+        state: *mut u64,
+        state_len: usize,
+        stats: *mut u64,
+        stats_len: usize,
+        time: u64,
+        transactions: *const u64,
+        transactions_len: usize,
+        inputs: *const u64,
+        inputs_len: usize,
+    ) -> u64;
+    fn gunthyd_recommended_fee(
+        state: *const u64,
+        state_len: usize,
+        stats: *const u64,
+        stats_len: usize,
+        answer: *mut u64,
+        answer_len: usize,
+        minutes: u32,
+        size: u32,
+    ) -> u64;
+    fn gunthyd_expected_wait_ms_at(
+        entries: *const u64,
+        entries_len: usize,
+        state: *const u64,
+        state_len: usize,
+        stats: *const u64,
+        stats_len: usize,
+        answer: *mut u64,
+        answer_len: usize,
+        time: u64,
+        fee: u64,
+        size: u32,
+    ) -> u64;
+    fn gunthyd_pool_histogram_at(
+        entries: *const u64,
+        entries_len: usize,
+        state: *const u64,
+        state_len: usize,
+        answer: *mut u64,
+        answer_len: usize,
+        time: u64,
+        bins: u32,
+        longest: u64,
     ) -> u64;
     fn gunthyd_len(state: *const u64, state_len: usize) -> u64;
     fn gunthyd_contains(
@@ -118,17 +208,36 @@ extern "C" {
     ) -> u64;
 }
 
+/// Calls an exported function: `mut` and `ref` lend a slice, as its pointer and its length; anything else is passed as it is.
+/// The slices are lent for the call alone, and every function is proved for words, lengths and numbers of any kind.
+macro_rules! call {
+    (@ $f:ident ($($done:expr),*)) => {
+        // SAFETY: as said above.
+        unsafe { $f($($done),*) }
+    };
+    (@ $f:ident ($($done:expr),*) mut $s:expr $(, $($rest:tt)*)?) => {
+        call!(@ $f ($($done,)* $s.as_mut_ptr(), $s.len()) $($($rest)*)?)
+    };
+    (@ $f:ident ($($done:expr),*) ref $s:expr $(, $($rest:tt)*)?) => {
+        call!(@ $f ($($done,)* $s.as_ptr(), $s.len()) $($($rest)*)?)
+    };
+    (@ $f:ident ($($done:expr),*) $n:expr $(, $($rest:tt)*)?) => {
+        call!(@ $f ($($done,)* $n) $($($rest)*)?)
+    };
+    ($f:ident($($rest:tt)*)) => {
+        call!(@ $f () $($rest)*)
+    };
+}
+
 /// The base weight of a transaction.
 pub fn fee_per_factor(fee: u64, size: u64, cost: u64, by_cycle: bool) -> u64 {
-    // SAFETY: the function takes numbers alone and is proved for every one of them.
-    unsafe { gunthyd_fee_per_factor(fee, size, cost, by_cycle.into()) }
+    call!(gunthyd_fee_per_factor(fee, size, cost, by_cycle.into()))
 }
 
 /// The rank of an id among the first `pooled` entries, 2^64−1 where it is not there.
 pub fn find_entry(entries: &[u64], pooled: usize, id: [u64; 4]) -> u64 {
     let [a, b, c, d] = id;
-    // SAFETY: the slice is lent for the call, which is proved for every words, count and id.
-    unsafe { gunthyd_find_entry(entries.as_ptr(), entries.len(), pooled, a, b, c, d) }
+    call!(gunthyd_find_entry(ref entries, pooled, a, b, c, d))
 }
 
 pub fn words_of(id: &Id) -> [u64; 4] {
@@ -176,6 +285,53 @@ impl Submission {
     }
 }
 
+/// A return as the port takes it.
+pub struct GivenBack {
+    pub tx: [u64; 13],
+    pub inputs: Vec<u64>,
+    pub outputs: Vec<u64>,
+}
+
+impl GivenBack {
+    pub fn of(r: &Return) -> GivenBack {
+        let [a, b, c, d] = words_of(&r.id);
+        let (measured, validation) = (u64::from(r.measured.is_some()), r.measured.unwrap_or(0));
+        let (source, peer) = (u64::from(r.peer.is_some()), r.peer.unwrap_or(0));
+        let cost = u64::from(r.cost);
+        let tx = [a, b, c, d, r.fee, r.size, cost, measured, validation, r.created, r.checked, source, peer];
+        let inputs = r.inputs.iter().flat_map(words_of).collect();
+        let mut outputs = Vec::with_capacity(r.outputs.len() * RETURN_OUTPUT_WORDS);
+        for (box_id, height) in &r.outputs {
+            outputs.extend(words_of(box_id));
+            outputs.push(u64::from(*height));
+        }
+        GivenBack { tx, inputs, outputs }
+    }
+}
+
+/// A block as the port takes it.
+pub struct Block {
+    pub transactions: Vec<u64>,
+    pub inputs: Vec<u64>,
+}
+
+impl Block {
+    pub fn of(txs: &[(Id, Vec<Id>)]) -> Block {
+        let mut transactions = Vec::with_capacity(txs.len() * BLOCK_TX_WORDS);
+        for (id, inputs) in txs {
+            transactions.extend(words_of(id));
+            transactions.push(inputs.len() as u64);
+        }
+        let inputs = txs.iter().flat_map(|(_, inputs)| inputs).flat_map(words_of).collect();
+        Block { transactions, inputs }
+    }
+}
+
+/// The number that was written, or the refusal.
+fn figure(code: u64, answer: [u64; 1]) -> Result<u64, u64> {
+    if code == 1 { Ok(answer[0]) } else { Err(u64::MAX - code) }
+}
+
 /// A pooled transaction.
 #[derive(Clone, Copy, Debug, PartialEq, Eq)]
 pub struct Row {
@@ -199,6 +355,7 @@ pub struct Port {
     pub peers: Vec<u64>,
     pub answer: Vec<u64>,
     pub state: [u64; STATE_WORDS],
+    pub stats: [u64; STATS_WORDS],
 }
 
 impl Port {
@@ -210,6 +367,7 @@ impl Port {
             peers: vec![0; PEERS * PEER_WORDS],
             answer: vec![0; store.answer_words],
             state: [0; STATE_WORDS],
+            stats: [0; STATS_WORDS],
         }
     }
 
@@ -221,7 +379,7 @@ impl Port {
         self.peers.resize(sizes[3] * PEER_WORDS, 0);
     }
 
-    /// 0 where the pool is ready, or the refusal.
+    /// 0 where the pool is ready and its statistics begin at time 0, or the refusal.
     pub fn start(&mut self, s: &Settings) -> u64 {
         let settings = [
             s.capacity,
@@ -235,50 +393,74 @@ impl Port {
             s.peer_limit,
         ];
         self.state[..settings.len()].copy_from_slice(&settings);
-        // SAFETY: the slices are lent for the call, which is proved for every words.
-        unsafe {
-            gunthyd_start(
-                self.entries.as_ptr(),
-                self.entries.len(),
-                self.boxes.as_ptr(),
-                self.boxes.len(),
-                self.cache.as_ptr(),
-                self.cache.len(),
-                self.peers.as_ptr(),
-                self.peers.len(),
-                self.state.as_mut_ptr(),
-                self.state.len(),
-            )
+        let Port { entries, boxes, cache, peers, state, .. } = self;
+        let code = call!(gunthyd_start(ref entries, ref boxes, ref cache, ref peers, mut state));
+        if code == 0 {
+            let stats = call!(gunthyd_start_stats(mut self.stats, 0));
+            assert_eq!(stats, 0);
         }
+        code
     }
 
     /// Submits, with the first `room` words of the answer buffer.
     #[inline]
     pub fn process(&mut self, s: &Submission, room: usize) -> u64 {
+        let Port { entries, boxes, cache, peers, state, .. } = self;
         let answer = &mut self.answer[..room];
-        // SAFETY: the slices are lent for the call, which is proved for every words.
-        unsafe {
-            gunthyd_process(
-                self.entries.as_mut_ptr(),
-                self.entries.len(),
-                self.boxes.as_mut_ptr(),
-                self.boxes.len(),
-                self.cache.as_mut_ptr(),
-                self.cache.len(),
-                self.peers.as_mut_ptr(),
-                self.peers.len(),
-                answer.as_mut_ptr(),
-                answer.len(),
-                self.state.as_mut_ptr(),
-                self.state.len(),
-                s.sub.as_ptr(),
-                s.sub.len(),
-                s.inputs.as_ptr(),
-                s.inputs.len(),
-                s.outputs.as_ptr(),
-                s.outputs.len(),
-            )
-        }
+        call!(gunthyd_process(
+            mut entries, mut boxes, mut cache, mut peers, mut answer, mut state, ref s.sub, ref s.inputs, ref s.outputs
+        ))
+    }
+
+    /// Gives a transaction back.
+    #[inline]
+    pub fn return_to_pool(&mut self, r: &GivenBack) -> u64 {
+        let Port { entries, boxes, state, .. } = self;
+        call!(gunthyd_return_to_pool(mut entries, mut boxes, mut state, ref r.tx, ref r.inputs, ref r.outputs))
+    }
+
+    pub fn invalidate(&mut self, time: u64, id: &Id) -> u64 {
+        let [a, b, c, d] = words_of(id);
+        let Port { entries, boxes, cache, state, .. } = self;
+        call!(gunthyd_invalidate(mut entries, mut boxes, mut cache, mut state, time, a, b, c, d))
+    }
+
+    /// Applies a block, with the first `room` words of the answer buffer.
+    #[inline]
+    pub fn apply_block_at(&mut self, time: u64, block: &Block, room: usize) -> u64 {
+        let Port { entries, boxes, cache, state, stats, .. } = self;
+        let answer = &mut self.answer[..room];
+        call!(gunthyd_apply_block_at(
+            mut entries, mut boxes, mut cache, mut answer, mut state, mut stats, time, ref block.transactions, ref block.inputs
+        ))
+    }
+
+    /// The fee for a wait of so many minutes, or the refusal.
+    #[inline]
+    pub fn recommended_fee(&self, minutes: u32, size: u32) -> Result<u64, u64> {
+        let mut answer = [0];
+        let code = call!(gunthyd_recommended_fee(ref self.state, ref self.stats, mut answer, minutes, size));
+        figure(code, answer)
+    }
+
+    /// The wait in milliseconds for a fee, or the refusal.
+    #[inline]
+    pub fn expected_wait_ms_at(&self, time: u64, fee: u64, size: u32) -> Result<u64, u64> {
+        let mut answer = [0];
+        let code = call!(gunthyd_expected_wait_ms_at(
+            ref self.entries, ref self.state, ref self.stats, mut answer, time, fee, size
+        ));
+        figure(code, answer)
+    }
+
+    /// Writes the counts and the sums of the pool by waits: how many pairs, or the refusal.
+    #[inline]
+    pub fn pool_histogram_at(&self, time: u64, bins: u32, longest: u64, answer: &mut [u64]) -> Result<usize, u64> {
+        let code = call!(gunthyd_pool_histogram_at(
+            ref self.entries, ref self.state, mut answer, time, bins, longest
+        ));
+        // No buffer holds so many pairs as the number of a refusal.
+        if code > answer.len() as u64 { Err(u64::MAX - code) } else { Ok(code as usize) }
     }
 
     /// How many ids the last changing call wrote.
@@ -286,9 +468,13 @@ impl Port {
         self.state[WRITTEN] as usize
     }
 
+    /// The ids that it wrote.
+    pub fn ids(&self) -> Vec<Id> {
+        self.answer.chunks(ID_WORDS).take(self.written()).map(id_of).collect()
+    }
+
     pub fn len(&self) -> usize {
-        // SAFETY: as below, the slices are lent for the call, which is proved for every words.
-        unsafe { gunthyd_len(self.state.as_ptr(), self.state.len()) as usize }
+        call!(gunthyd_len(ref self.state)) as usize
     }
 
     pub fn is_empty(&self) -> bool {
@@ -298,62 +484,23 @@ impl Port {
     /// Whether a transaction is pooled, or its id held in the cache at this time: 1 or 0.
     pub fn contains(&self, time: u64, id: &Id) -> u64 {
         let [a, b, c, d] = words_of(id);
-        let (entries, cache, state) = (&self.entries, &self.cache, &self.state);
-        unsafe {
-            gunthyd_contains(
-                entries.as_ptr(),
-                entries.len(),
-                cache.as_ptr(),
-                cache.len(),
-                state.as_ptr(),
-                state.len(),
-                time,
-                a,
-                b,
-                c,
-                d,
-            )
-        }
+        call!(gunthyd_contains(ref self.entries, ref self.cache, ref self.state, time, a, b, c, d))
     }
 
     /// The transaction that spends a box.
     pub fn spending_tx(&self, box_id: &Id) -> Option<Row> {
         let [a, b, c, d] = words_of(box_id);
-        let (entries, boxes, state) = (&self.entries, &self.boxes, &self.state);
         let mut answer = [0; ROW_WORDS];
-        let found = unsafe {
-            gunthyd_spending_tx(
-                entries.as_ptr(),
-                entries.len(),
-                boxes.as_ptr(),
-                boxes.len(),
-                state.as_ptr(),
-                state.len(),
-                answer.as_mut_ptr(),
-                answer.len(),
-                a,
-                b,
-                c,
-                d,
-            )
-        };
+        let found = call!(gunthyd_spending_tx(
+            ref self.entries, ref self.boxes, ref self.state, mut answer, a, b, c, d
+        ));
         (found == 1).then(|| Row::of(&answer))
     }
 
     /// The first `limit` transactions in priority order.
     pub fn top(&self, limit: usize) -> Vec<Row> {
         let mut answer = vec![0; limit.min(self.len()) * ROW_WORDS];
-        let listed = unsafe {
-            gunthyd_top(
-                self.entries.as_ptr(),
-                self.entries.len(),
-                self.state.as_ptr(),
-                self.state.len(),
-                answer.as_mut_ptr(),
-                answer.len(),
-                limit,
-            )
-        };
+        let listed = call!(gunthyd_top(ref self.entries, ref self.state, mut answer, limit));
         answer.chunks(ROW_WORDS).take(listed as usize).map(Row::of).collect()
     }
 
