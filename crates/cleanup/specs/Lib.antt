@@ -6,3 +6,4 @@ pub mod Numbers
 pub mod Search
 pub mod Selecting
 pub mod Laws
+pub mod Promises

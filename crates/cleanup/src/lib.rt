@@ -47,8 +47,9 @@ ghost use Rattle.pool.specs.Pool.{PoolFits, tablesOf, removeTx};
 ghost use Rattle.store.specs.World.{World, worldOf};
 ghost use Rattle.store.specs.Fits.{Testable, Fits};
 ghost use Rattle.returns.specs.Post.{cacheFits, Cached};
-ghost use Rattle.cleanup.specs.Passes.{passOf, opened, due, offered, nexted, measured, previousCost, answeredWith, weighed, answered};
+ghost use Rattle.cleanup.specs.Passes.{passOf, opened, due, offered, measured, previousCost, answeredWith, weighed};
 ghost use Rattle.cleanup.specs.Post.{PassPost, PassOnly, repassed, Untouched, noneOut, answerCode, Stepped};
+ghost use Rattle.cleanup.specs.Promises.{OpenPromise, NextPromise, AnswerPromise};
 ghost use Rattle.cleanup.specs.Numbers.{ofOpen, ofNext, ofAnswer};
 ghost use Rattle.cleanup.specs.Search.{looked, Sought};
 
@@ -84,8 +85,7 @@ fn no_id() -> Id
 
 // Opens a pass at a time, with a limit of its cost, against a preheader's height.
 pub fn open(mempool: Mempool, time: u64, limit: u64, preheader: u32) -> Opened
-    ensures { λ r. ⌜ ((e b k p : List ℕ) → Fits e b k p mempool →
-        PassPost mempool (r .mempool) (openedOf (r .outcome)) e b k p (opened (worldOf e b k p mempool) (passOf (mempool .pass)) time limit preheader)) ⌝ }
+    ensures { λ r. ⌜ OpenPromise mempool time limit preheader (r .mempool) (openedOf (r .outcome)) ⌝ }
     ensures { λ r. ⌜ ofOpen (r .outcome) ≡ true ⌝ }
     ensures { λ r. ⌜ ((w : World) → PassOnly mempool (r .mempool) (openedOf (r .outcome)) (opened w (passOf (mempool .pass)) time limit preheader)) ⌝ }
 {
@@ -222,8 +222,7 @@ fn end_pass(mempool: Mempool) -> Offered
 // The next candidate, or the one that waits for its answer; or that the pass has ended. On words and counts that no start and calls left it is
 // safe, and answers with a number of this call.
 pub fn next(entries: &[u64], mempool: Mempool) -> Offered
-    ensures { λ r. ⌜ ((b k p : List ℕ) → Fits (now (entries .entry)) b k p mempool →
-        PassPost mempool (r .mempool) (nextOf (r .outcome)) (now (entries .entry)) b k p (nexted (mempool .config) (worldOf (now (entries .entry)) b k p mempool) (passOf (mempool .pass)))) ⌝ }
+    ensures { λ r. ⌜ NextPromise (now (entries .entry)) mempool (r .mempool) (nextOf (r .outcome)) ⌝ }
     ensures { λ r. ⌜ ofNext (r .outcome) ≡ true ⌝ }
     ensures { λ r. ⌜ r .mempool ≡ repassed mempool (r .mempool .pass) ⌝ }
     ensures { λ r. ⌜ (leb (mempool .counts .pooled) (entriesRoom (now (entries .entry))) ≡ false →
@@ -448,9 +447,7 @@ pub fn answer(
     flags: &[u64],
     verdict: Verdict,
 ) -> Answered
-    ensures { λ r. ⌜ ((p : List ℕ) → Fits (now (entries .entry)) (now (boxes .entry)) (now (cache .entry)) p mempool →
-        PassPost mempool (r .mempool) (answeredOf (r .outcome)) (now (entries .exit)) (now (boxes .exit)) (now (cache .exit)) p
-        (answered (mempool .config) (worldOf (now (entries .entry)) (now (boxes .entry)) (now (cache .entry)) p mempool) (passOf (mempool .pass)) (now (flags .entry)) verdict)) ⌝ }
+    ensures { λ r. ⌜ AnswerPromise (now (entries .entry)) (now (boxes .entry)) (now (cache .entry)) mempool (now (flags .entry)) verdict (now (entries .exit)) (now (boxes .exit)) (now (cache .exit)) (r .mempool) (answeredOf (r .outcome)) ⌝ }
     ensures { λ r. ⌜ ofAnswer (r .outcome) ≡ true ⌝ }
     ensures { λ r. ⌜ (cacheFits (now (entries .entry)) (now (boxes .entry)) (now (cache .entry)) mempool ≡ false →
         Untouched mempool (r .mempool) (answeredOf (r .outcome)) (noneOut (mempool .pass)) (now (entries .entry) ∷ now (boxes .entry) ∷ now (cache .entry) ∷ []) (now (entries .exit) ∷ now (boxes .exit) ∷ now (cache .exit) ∷ [])) ⌝ }

@@ -19,9 +19,9 @@ ghost use Rattle.boxes.specs.Layout.{boxesOf};
 ghost use Rattle.entries.specs.Layout.{entryAt};
 ghost use Rattle.pool.specs.Pool.{PoolFits, fitsTest, tablesOf};
 ghost use Rattle.store.specs.World.{worldOf};
-ghost use Rattle.cleanup.specs.Rebroadcast.{rebroadcastRefusal, rebroadcast};
+ghost use Rattle.cleanup.specs.Rebroadcast.{rebroadcastRefusal};
 ghost use Rattle.cleanup.specs.Selecting.{SelectedOne, Selected};
-ghost use Rattle.cleanup.specs.Post.{Sent};
+ghost use Rattle.cleanup.specs.Promises.{RebroadcastPromise};
 ghost use Rattle.cleanup.specs.Numbers.{ofRebroadcast};
 
 // Refusals 1 and 2, where the answer has room for so many ids; 0 where none is given.
@@ -93,9 +93,7 @@ pub fn select_for_rebroadcast(
     mempool: Mempool,
     confirmed: &[u64],
 ) -> ListOutcome
-    ensures { λ r. ⌜ ((k p : List ℕ) → PoolFits (now (entries .entry)) (now (boxes .entry)) (mempool .counts) →
-        Sent (now (answer .entry)) (now (answer .exit)) (listedOf r) (worldOf (now (entries .entry)) (now (boxes .entry)) k p mempool)
-        (rebroadcast mempool (worldOf (now (entries .entry)) (now (boxes .entry)) k p mempool) (length (now (answer .entry)) / 4) (now (confirmed .entry)))) ⌝ }
+    ensures { λ r. ⌜ RebroadcastPromise (now (entries .entry)) (now (boxes .entry)) mempool (now (confirmed .entry)) (now (answer .entry)) (now (answer .exit)) (listedOf r) ⌝ }
     ensures { λ r. ⌜ ofRebroadcast r ≡ true ⌝ }
     ensures { λ r. ⌜ (fitsTest (now (entries .entry)) (now (boxes .entry)) (mempool .counts) ≡ false →
         (listedOf r ≡ refused 1 0) × (now (answer .exit) ≡ now (answer .entry))) ⌝ }

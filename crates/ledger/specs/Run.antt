@@ -1,7 +1,7 @@
 -- Lists of calls (document 01, "Demand 3": "A list begins with what an accepted start left; each call gets store and state as the last left or returned
--- them; nobody else writes them; arguments and answer buffers are apart."). A step is what the call's contract promises, no more: the record that stands
--- in its `ensures`, with the same premise, and what the call is not lent stays as it is.
-use Prim.Native.Nat.{ℕ, _/_, _≤_}
+-- them; nobody else writes them; arguments and answer buffers are apart."). A step is what the call's contract promises, no more: the definition that
+-- its `ensures` cites, and what the call is not lent stays as it is.
+use Prim.Native.Nat.{ℕ, _≤_}
 use mathlib.Core.Path.{_≡_}
 use mathlib.Core.List.{List, [], _∷_}
 use lib.ListN.{length}
@@ -19,23 +19,17 @@ use Rattle.expiring_cache.specs.Layout.{cacheRoom}
 use Rattle.peers.specs.declared.PeerRecord.{PeerRecord}
 use Rattle.entries.specs.Layout.{entriesRoom}
 use Rattle.boxes.specs.Layout.{boxesRoom}
-use Rattle.pool.specs.Pool.{PoolFits}
-use Rattle.store.specs.World.{World, worldOf}
-use Rattle.store.specs.Fits.{Fits}
+use Rattle.store.specs.World.{World}
 use Rattle.mempool.specs.Start.{Sizes, sizes, started}
 use Rattle.mempool.specs.Queries.{containsOf, spendingOf}
 use Rattle.mempool.specs.Listing.{Topped, topOf}
 use Rattle.fees.specs.Fees.{recommended, expectedWait, histogramOf}
 use Rattle.fees.specs.Bins.{Drawn}
-use Rattle.returns.specs.Returns.{returned, invalidated}
-use Rattle.returns.specs.Post.{Meets}
+use Rattle.returns.specs.Promises.{ReturnPromise, InvalidatePromise}
 use Rattle.returns.specs.declared.UnconfirmedTx.{UnconfirmedTx}
-use Rattle.cleanup.specs.Passes.{passOf, opened, nexted, answered}
-use Rattle.cleanup.specs.Rebroadcast.{rebroadcast}
-use Rattle.cleanup.specs.Post.{PassPost, Sent}
+use Rattle.cleanup.specs.Promises.{OpenPromise, NextPromise, AnswerPromise, RebroadcastPromise}
 use Rattle.lent.specs.Lent.{lentWorld, LentFits}
-use Rattle.lent.specs.Post.{LentPost, lentResult}
-use Rattle.lent.specs.Blocks.{LentBlock, blockResult}
+use Rattle.lent.specs.Promises.{ProcessPromise, BlockPromise}
 use Rattle.ledger.specs.Ledger.{Query, Len, Contains, Spending, Top, All, Fee, Wait, Histogram, Rebroadcast, Call, Submit, Return, Block, Invalidate, Open, Next, Answer, Start, Ask, Heard}
 
 -- store and state between two calls
@@ -69,16 +63,14 @@ pub record Submitted (m n : Moment) (a : Submission) (ins outs : List ℕ) (o : 
   pub was : List ℕ
   pub is : List ℕ
   pub stats : n .stats ≡ m .stats
-  pub post : FitsAt m → LentPost (m .state) (record { mempool = n .state; outcome = said }) (n .entries) (n .boxes) (n .cache) (n .peers) was is
-      (lentResult (m .entries) (m .boxes) (m .cache) (m .peers) was (m .state) a ins outs)
+  pub post : ProcessPromise (m .entries) (m .boxes) (m .cache) (m .peers) (m .state) a ins outs (n .entries) (n .boxes) (n .cache) (n .peers) was is (record { mempool = n .state; outcome = said })
 
 -- `returns::return_to_pool`
 pub record Given (m n : Moment) (u : UnconfirmedTx) (ins outs : List ℕ) (o : Outcome) : Type 0 where
   pub cache : n .cache ≡ m .cache
   pub peers : n .peers ≡ m .peers
   pub stats : n .stats ≡ m .stats
-  pub post : (k p : List ℕ) → Fits (m .entries) (m .boxes) k p (m .state) → Meets (m .state) (n .state) o (n .entries) (n .boxes) k p
-      (returned (entriesRoom (m .entries)) (boxesRoom (m .boxes)) (m .state) (worldOf (m .entries) (m .boxes) k p (m .state)) u ins outs)
+  pub post : ReturnPromise (m .entries) (m .boxes) (m .state) u ins outs (n .entries) (n .boxes) (n .state) o
 
 -- `lent::apply_block_at`
 pub record Applied (m n : Moment) (time : ℕ) (txs ins : List ℕ) (o : Outcome) : Type 0 where
@@ -87,16 +79,13 @@ pub record Applied (m n : Moment) (time : ℕ) (txs ins : List ℕ) (o : Outcome
   pub was : List ℕ
   pub is : List ℕ
   pub peers : n .peers ≡ m .peers
-  pub post : (ys : List PeerRecord) → LentFits (m .entries) (m .boxes) (m .cache) ys (m .state)
-      → LentBlock (m .state) (record { mempool = n .state; stats = n .stats; outcome = said }) (n .entries) (n .boxes) (n .cache) ys was is
-      (blockResult (m .entries) (m .boxes) (m .cache) ys was (m .state) (m .stats) time txs ins)
+  pub post : BlockPromise (m .entries) (m .boxes) (m .cache) (m .state) (m .stats) time txs ins (n .entries) (n .boxes) (n .cache) was is (record { mempool = n .state; stats = n .stats; outcome = said })
 
 -- `returns::invalidate`
 pub record Invalidated (m n : Moment) (time k : ℕ) (o : Outcome) : Type 0 where
   pub peers : n .peers ≡ m .peers
   pub stats : n .stats ≡ m .stats
-  pub post : (p : List ℕ) → Fits (m .entries) (m .boxes) (m .cache) p (m .state) → Meets (m .state) (n .state) o (n .entries) (n .boxes) (n .cache) p
-      (invalidated (m .state) (worldOf (m .entries) (m .boxes) (m .cache) p (m .state)) time k)
+  pub post : InvalidatePromise (m .entries) (m .boxes) (m .cache) (m .state) time k (n .entries) (n .boxes) (n .cache) (n .state) o
 
 -- the state alone goes through the call
 pub record StateOnly (m n : Moment) : Type 0 where
@@ -109,21 +98,18 @@ pub record StateOnly (m n : Moment) : Type 0 where
 -- `cleanup::open`
 pub record Opened (m n : Moment) (time limit preheader : ℕ) (o : Outcome) : Type 0 where
   pub rest : StateOnly m n
-  pub post : (e b k p : List ℕ) → Fits e b k p (m .state)
-      → PassPost (m .state) (n .state) o e b k p (opened (worldOf e b k p (m .state)) (passOf (m .state .pass)) time limit preheader)
+  pub post : OpenPromise (m .state) time limit preheader (n .state) o
 
 -- `cleanup::next`
 pub record Offered (m n : Moment) (o : Outcome) : Type 0 where
   pub rest : StateOnly m n
-  pub post : (b k p : List ℕ) → Fits (m .entries) b k p (m .state)
-      → PassPost (m .state) (n .state) o (m .entries) b k p (nexted (m .state .config) (worldOf (m .entries) b k p (m .state)) (passOf (m .state .pass)))
+  pub post : NextPromise (m .entries) (m .state) (n .state) o
 
 -- `cleanup::answer`
 pub record Answered (m n : Moment) (flags : List ℕ) (v : Verdict) (o : Outcome) : Type 0 where
   pub peers : n .peers ≡ m .peers
   pub stats : n .stats ≡ m .stats
-  pub post : (p : List ℕ) → Fits (m .entries) (m .boxes) (m .cache) p (m .state) → PassPost (m .state) (n .state) o (n .entries) (n .boxes) (n .cache) p
-      (answered (m .state .config) (worldOf (m .entries) (m .boxes) (m .cache) p (m .state)) (passOf (m .state .pass)) flags v)
+  pub post : AnswerPromise (m .entries) (m .boxes) (m .cache) (m .state) flags v (n .entries) (n .boxes) (n .cache) (n .state) o
 
 -- a query's contract; its answer buffer was `was` and is `is`
 pub record Listed (was is : List ℕ) (o : Outcome) (P : ListOutcome → Type 0) : Type 0 where
@@ -140,9 +126,7 @@ Asked All m was is o = Listed was is o (λ r. Topped was is r (topOf (m .entries
 Asked (Fee minutes size) m was is o = o ≡ recommended (m .stats) (m .state) minutes size
 Asked (Wait time fee size) m was is o = o ≡ expectedWait (m .entries) (m .stats) (m .state) time fee size
 Asked (Histogram time bins longest) m was is o = Listed was is o (λ r. Drawn was is r (histogramOf (m .entries) (m .state) (length was) time bins longest))
-Asked (Rebroadcast confirmed) m was is o =
-    (k p : List ℕ) → PoolFits (m .entries) (m .boxes) (m .state .counts)
-    → Sent was is o (worldOf (m .entries) (m .boxes) k p (m .state)) (rebroadcast (m .state) (worldOf (m .entries) (m .boxes) k p (m .state)) (length was / 4) confirmed)
+Asked (Rebroadcast confirmed) m was is o = RebroadcastPromise (m .entries) (m .boxes) (m .state) confirmed was is o
 
 -- the store is lent for reading, and the state is not handed back
 pub record Queried (m n : Moment) (q : Query) (o : Outcome) : Type 0 where

@@ -4,3 +4,4 @@ pub mod Blocks
 pub mod Start
 pub mod Bills
 pub mod Post
+pub mod Promises

@@ -34,11 +34,10 @@ ghost use Rattle.process.specs.Numbers.{ofSubmission};
 ghost use Rattle.blocks.specs.Post.{Untouched};
 ghost use Rattle.blocks.specs.Numbers.{ofBlock};
 ghost use Rattle.fees.specs.Fees.{recommended, expectedWait};
-ghost use Rattle.lent.specs.Lent.{LentFits};
 ghost use Rattle.lent.specs.Start.{statsAfter, begun};
-ghost use Rattle.lent.specs.Blocks.{handed, blockResult, LentBlock};
+ghost use Rattle.lent.specs.Blocks.{handed};
 ghost use Rattle.lent.specs.Bills.{askedPeer, Payable, Paid};
-ghost use Rattle.lent.specs.Post.{LentPost, lentResult};
+ghost use Rattle.lent.specs.Promises.{ProcessPromise, BlockPromise};
 
 // ---- a start
 
@@ -108,9 +107,7 @@ pub fn apply_block_at(
     transactions: &[u64],
     inputs: &[u64],
 ) -> Blocked
-    ensures { λ r. ⌜ ((ys : List PeerRecord) → LentFits (now (entries .entry)) (now (boxes .entry)) (now (cache .entry)) ys mempool →
-        LentBlock mempool (handed r (stats .exit .now)) (now (entries .exit)) (now (boxes .exit)) (now (cache .exit)) ys (now (answer .entry)) (now (answer .exit))
-        (blockResult (now (entries .entry)) (now (boxes .entry)) (now (cache .entry)) ys (now (answer .entry)) mempool (stats .entry .now) time (now (transactions .entry)) (now (inputs .entry))))
+    ensures { λ r. ⌜ BlockPromise (now (entries .entry)) (now (boxes .entry)) (now (cache .entry)) mempool (stats .entry .now) time (now (transactions .entry)) (now (inputs .entry)) (now (entries .exit)) (now (boxes .exit)) (now (cache .exit)) (now (answer .entry)) (now (answer .exit)) (handed r (stats .exit .now))
         × (ofBlock (blockOf (r .outcome)) ≡ true)
         × ((Testable (now (entries .entry)) (now (boxes .entry)) (now (cache .entry)) mempool → ⊥) →
         Untouched mempool (stats .entry .now) (handed r (stats .exit .now)) (now (entries .entry)) (now (entries .exit)) (now (boxes .entry)) (now (boxes .exit)) (now (cache .entry)) (now (cache .exit)) (now (answer .entry)) (now (answer .exit))) ⌝ }
@@ -188,9 +185,7 @@ pub fn process(
     inputs: &[u64],
     outputs: &[u64],
 ) -> Processed
-    ensures { λ r. ⌜ (LentFits (now (entries .entry)) (now (boxes .entry)) (now (cache .entry)) (now (peers .entry)) mempool →
-        LentPost mempool r (now (entries .exit)) (now (boxes .exit)) (now (cache .exit)) (now (peers .exit)) (now (answer .entry)) (now (answer .exit))
-        (lentResult (now (entries .entry)) (now (boxes .entry)) (now (cache .entry)) (now (peers .entry)) (now (answer .entry)) mempool sub (now (inputs .entry)) (now (outputs .entry))))
+    ensures { λ r. ⌜ ProcessPromise (now (entries .entry)) (now (boxes .entry)) (now (cache .entry)) (now (peers .entry)) mempool sub (now (inputs .entry)) (now (outputs .entry)) (now (entries .exit)) (now (boxes .exit)) (now (cache .exit)) (now (peers .exit)) (now (answer .entry)) (now (answer .exit)) r
         × (ofSubmission (processedOf (r .outcome)) ≡ true) ⌝ }
 {
     let found = look_up(peers, mempool, sub);

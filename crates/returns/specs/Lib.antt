@@ -3,3 +3,4 @@ pub mod Edges
 pub mod Post
 pub mod Numbers
 pub mod Laws
+pub mod Promises

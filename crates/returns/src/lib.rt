@@ -34,8 +34,9 @@ ghost use Rattle.boxes.specs.Flat.{countOf, idsOf};
 ghost use Rattle.pool.specs.Pool.{PoolFits, fitsTest, Room, tablesOf, noRoom, insertTx, removeTx};
 ghost use Rattle.store.specs.World.{worldOf};
 ghost use Rattle.store.specs.Fits.{Fits};
-ghost use Rattle.returns.specs.Returns.{returnRefusal, returnedEntry, returned, invalidated};
-ghost use Rattle.returns.specs.Post.{Meets, Untouched, cacheFits, Tabled, Cached};
+ghost use Rattle.returns.specs.Returns.{returnRefusal, returnedEntry};
+ghost use Rattle.returns.specs.Promises.{ReturnPromise, InvalidatePromise};
+ghost use Rattle.returns.specs.Post.{Untouched, cacheFits, Tabled, Cached};
 ghost use Rattle.returns.specs.Numbers.{ofReturn, ofInvalidation};
 
 // The greatest size.
@@ -194,9 +195,7 @@ pub fn return_to_pool(
     inputs: &[u64],
     outputs: &[u64],
 ) -> Returned
-    ensures { λ r. ⌜ ((k p : List ℕ) → Fits (now (entries .entry)) (now (boxes .entry)) k p mempool →
-        Meets mempool (r .mempool) (returnedOf (r .outcome)) (now (entries .exit)) (now (boxes .exit)) k p
-        (returned (entriesRoom (now (entries .entry))) (boxesRoom (now (boxes .entry))) mempool (worldOf (now (entries .entry)) (now (boxes .entry)) k p mempool) tx (now (inputs .entry)) (now (outputs .entry)))) ⌝ }
+    ensures { λ r. ⌜ ReturnPromise (now (entries .entry)) (now (boxes .entry)) mempool tx (now (inputs .entry)) (now (outputs .entry)) (now (entries .exit)) (now (boxes .exit)) (r .mempool) (returnedOf (r .outcome)) ⌝ }
     ensures { λ r. ⌜ ofReturn (r .outcome) ≡ true ⌝ }
     ensures { λ r. ⌜ (fitsTest (now (entries .entry)) (now (boxes .entry)) (mempool .counts) ≡ false →
         Untouched mempool (r .mempool) (returnedOf (r .outcome)) (now (entries .entry) ∷ now (boxes .entry) ∷ []) (now (entries .exit) ∷ now (boxes .exit) ∷ [])) ⌝ }
@@ -279,9 +278,7 @@ pub fn invalidate(
     time: u64,
     id: Id,
 ) -> Invalidated
-    ensures { λ r. ⌜ ((p : List ℕ) → Fits (now (entries .entry)) (now (boxes .entry)) (now (cache .entry)) p mempool →
-        Meets mempool (r .mempool) (invalidatedOf (r .outcome)) (now (entries .exit)) (now (boxes .exit)) (now (cache .exit)) p
-        (invalidated mempool (worldOf (now (entries .entry)) (now (boxes .entry)) (now (cache .entry)) p mempool) time (idOf id))) ⌝ }
+    ensures { λ r. ⌜ InvalidatePromise (now (entries .entry)) (now (boxes .entry)) (now (cache .entry)) mempool time (idOf id) (now (entries .exit)) (now (boxes .exit)) (now (cache .exit)) (r .mempool) (invalidatedOf (r .outcome)) ⌝ }
     ensures { λ r. ⌜ ofInvalidation (r .outcome) ≡ true ⌝ }
     ensures { λ r. ⌜ (cacheFits (now (entries .entry)) (now (boxes .entry)) (now (cache .entry)) mempool ≡ false →
         Untouched mempool (r .mempool) (invalidatedOf (r .outcome)) (now (entries .entry) ∷ now (boxes .entry) ∷ now (cache .entry) ∷ []) (now (entries .exit) ∷ now (boxes .exit) ∷ now (cache .exit) ∷ [])) ⌝ }
