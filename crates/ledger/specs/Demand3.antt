@@ -1,6 +1,6 @@
 -- Demand 3 (document 01), as one record: its sentences in its order, over every list of calls from what an accepted start left. The ledger is
 -- `told g h`; the pool is what the lent words decode to.
-use Prim.Native.Nat.{ℕ, _≤_}
+use Prim.Native.Nat.{ℕ, _-_, _≤_}
 use mathlib.Core.Path.{_≡_, refl}
 use mathlib.Core.Bool.{Bool, true, false, not, _&&_}
 use mathlib.Core.List.{List, [], _∷_, _++_, map}
@@ -43,6 +43,11 @@ pooledAs k t = map (λ e. record { id = e .id; base = e .base; ins = inputsOf (e
 -- the ledger's
 abbrev pub heldAs : ℕ → Book → List Known
 heldAs k b = map (λ x. record { id = x .id; base = x .base; ins = x .ins; outs = x .outs }) (found (λ x. x .id) k (b .txs))
+
+-- ---- "order weight falling, then id rising": each is strictly ahead of the next
+
+abbrev pub PriorityOrder : List Entry → Type 0
+PriorityOrder es = Strict entryWeight entryId es
 
 -- ---- "each index entry names a pooled transaction that has that box"
 
@@ -143,7 +148,7 @@ pub record Demand3 (g : MempoolConfig) (h : List Heard) (m : Moment) : Type 0 wh
   pub spenders : index false (worldAt m .tables .boxes) ≡ told g h .book .spenders
   pub producers : index true (worldAt m .tables .boxes) ≡ told g h .book .producers
   -- order: weight falling, then id rising
-  pub order : Strict entryWeight entryId (worldAt m .tables .entries)
+  pub order : PriorityOrder (worldAt m .tables .entries)
   -- each index entry names a pooled transaction that has that box
   pub named-spenders : Names inputsOf (worldAt m .tables) (index false (worldAt m .tables .boxes))
   pub named-producers : Names outputsOf (worldAt m .tables) (index true (worldAt m .tables .boxes))

@@ -23,3 +23,4 @@ pub mod AgreesSubmission
 pub mod AgreesCalls
 pub mod AgreesPasses
 pub mod Theorem
+pub mod Witness
