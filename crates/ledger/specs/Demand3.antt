@@ -1,6 +1,6 @@
 -- Demand 3 (document 01), as one record: its sentences in its order, over every list of calls from what an accepted start left. The ledger is
 -- `told g h`; the pool is what the lent words decode to.
-use Prim.Native.Nat.{ℕ, _-_, _≤_}
+use Prim.Native.Nat.{ℕ, _≤_}
 use mathlib.Core.Path.{_≡_, refl}
 use mathlib.Core.Bool.{Bool, true, false, not, _&&_}
 use mathlib.Core.List.{List, [], _∷_, _++_, map}
