@@ -47,7 +47,7 @@ impl Mempool {
         &mut self,
         now: Instant,
         limit: u64,
-        utxo_reader: &dyn pool_types::UtxoReader,
+        utxo_reader: &dyn types::UtxoReader,
         state_context: &ergo_validation::ErgoStateContext,
     ) -> Vec<[u8; 32]> {
         self.revalidate_within(now, limit, utxo_reader, state_context)
