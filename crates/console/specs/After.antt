@@ -12,6 +12,7 @@ use Rattle.pool_types.specs.Outcomes.{processedOf, blockOf}
 use Rattle.stats.specs.declared.FeeStats.{FeeStats}
 use Rattle.process.specs.declared.Processed.{Processed}
 use Rattle.blocks.specs.declared.Applied.{Applied}
+use Rattle.cleanup.specs.Passes.{passOf}
 use Rattle.replies.specs.Replies.{listed}
 use Rattle.console.specs.Console.{Line, same, txText, wRemoved, orRefused, writtenIn}
 use Rattle.console.specs.declared.Kept.{Kept}
@@ -43,7 +44,7 @@ pub record After (e b k p a o₀ o : List ℕ) (t : Told) (m : Line) : Type 0 wh
   pub prints : Prints (m .text) 0 o₀ o (t .len)
   pub ready : t .kept .ready ≡ m .ready
   pub config : t .kept .mempool .config ≡ m .config
-  pub pass : t .kept .mempool .pass ≡ m .pass
+  pub pass : passOf (t .kept .mempool .pass) ≡ m .pass
   pub world : worldOf e b k p (t .kept .mempool) ≡ m .world
   pub stats : t .kept .stats ≡ m .stats
   pub written : idsTo 4 a (t .kept .written) ≡ m .written

@@ -12,7 +12,6 @@ use Rattle.pool_types.specs.declared.FeeStrategy.{FeeStrategy}
 use Rattle.pool_types.specs.declared.FeeStrategy.the-variants.{FeePerByte, FeePerCycle}
 use Rattle.pool_types.specs.declared.MempoolConfig.{MempoolConfig}
 use Rattle.pool_types.specs.declared.Mempool.{Mempool}
-use Rattle.pool_types.specs.declared.Pass.{Pass}
 use Rattle.pool_types.specs.declared.Source.{Source}
 use Rattle.pool_types.specs.declared.Source.the-variants.{Local, Peer}
 use Rattle.pool_types.specs.declared.Submission.{Submission}
@@ -36,6 +35,8 @@ use Rattle.returns.specs.Returns.{returned, invalidated}
 use Rattle.returns.specs.declared.UnconfirmedTx.{UnconfirmedTx}
 use Rattle.blocks.specs.Blocks.{BlockResult}
 use Rattle.blocks.specs.Post.{resultOf as blockResult}
+use Rattle.cleanup.specs.Passes.{PassNow, passOf, PassResult, opened, nexted, answered}
+use Rattle.cleanup.specs.Rebroadcast.{rebroadcast}
 use Rattle.fees.specs.Fees as fees
 use Rattle.fees.specs.Fees.{Bin, bin, recommended, expectedWait, histogramOf}
 use Rattle.mempool.specs.Start.{sizes, empty, started}
@@ -48,19 +49,19 @@ use Rattle.lines.specs.declared.read.PoolForm.{PoolForm}
 use Rattle.lines.specs.declared.read.TxForm.{TxForm}
 use Rattle.lines.specs.declared.read.ReturnForm.{ReturnForm}
 use Rattle.console.specs.declared.calls.Call.{Call}
-use Rattle.console.specs.declared.calls.Call.the-variants.{Start, Alter, Ask, NotThere}
+use Rattle.console.specs.declared.calls.Call.the-variants.{Start, Alter, Ask, Unreadable}
 use Rattle.console.specs.declared.calls.Change.{Change}
-use Rattle.console.specs.declared.calls.Change.the-variants.{Submit, Return, Block, Invalidate}
+use Rattle.console.specs.declared.calls.Change.the-variants.{Submit, Return, Block, Invalidate, Open, Next, Answer}
 use Rattle.console.specs.Calls.{wordsOf, lacksPool}
 use Rattle.console.specs.declared.calls.Query.{Query}
-use Rattle.console.specs.declared.calls.Query.the-variants.{Listing as Lists, Len, Contains, Spending, Fee, Wait, Histogram, Charges, Written}
+use Rattle.console.specs.declared.calls.Query.the-variants.{Listing as Lists, Len, Contains, Spending, Fee, Wait, Histogram, Rebroadcast, Charges, Written}
 use Rattle.forms.specs.Nums.{numeral, digitByte}
 use Rattle.replies.specs.Replies.{numbered, named, listed, replacedText, pooledText, rowOf, spenderText, Pair, pairText, chargesText, binsText}
 use Rattle.console.specs.declared.Kept.{Kept}
 
 -- ---- texts
 
--- `(ready)`, `(no pool)`, `(verdict needed)`, `(yes)`, `(no)`, `(none)`
+-- `(ready)`, `(no pool)`, `(verdict needed)`, `(opened)`, `(yes)`, `(no)`, `(none)`
 abbrev pub wReady : List ℕ
 wReady = 40 ∷ 114 ∷ 101 ∷ 97 ∷ 100 ∷ 121 ∷ 41 ∷ []
 
@@ -69,6 +70,9 @@ wNoPool = 40 ∷ 110 ∷ 111 ∷ 32 ∷ 112 ∷ 111 ∷ 111 ∷ 108 ∷ 41 ∷ [
 
 abbrev pub wNeeded : List ℕ
 wNeeded = 40 ∷ 118 ∷ 101 ∷ 114 ∷ 100 ∷ 105 ∷ 99 ∷ 116 ∷ 32 ∷ 110 ∷ 101 ∷ 101 ∷ 100 ∷ 101 ∷ 100 ∷ 41 ∷ []
+
+abbrev pub wOpened : List ℕ
+wOpened = 40 ∷ 111 ∷ 112 ∷ 101 ∷ 110 ∷ 101 ∷ 100 ∷ 41 ∷ []
 
 abbrev pub wYes : List ℕ
 wYes = 40 ∷ 121 ∷ 101 ∷ 115 ∷ 41 ∷ []
@@ -79,7 +83,8 @@ wNo = 40 ∷ 110 ∷ 111 ∷ 41 ∷ []
 abbrev pub wNone : List ℕ
 wNone = 40 ∷ 110 ∷ 111 ∷ 110 ∷ 101 ∷ 41 ∷ []
 
--- `(refused `, `(unread `, `(len `, `(fee `, `(wait `, `(accepted `, `(returned `, `(invalidated `, `(removed`, `(ids`
+-- `(refused `, `(unread `, `(len `, `(fee `, `(wait `, `(accepted `, `(returned `, `(invalidated `, `(candidate `, `(ended `, `(missing `, `(invalid `,
+-- `(valid `, `(removed`, `(ids`
 abbrev pub wRefused : List ℕ
 wRefused = 40 ∷ 114 ∷ 101 ∷ 102 ∷ 117 ∷ 115 ∷ 101 ∷ 100 ∷ 32 ∷ []
 
@@ -103,6 +108,21 @@ wReturned = 40 ∷ 114 ∷ 101 ∷ 116 ∷ 117 ∷ 114 ∷ 110 ∷ 101 ∷ 100 �
 
 abbrev pub wInvalidated : List ℕ
 wInvalidated = 40 ∷ 105 ∷ 110 ∷ 118 ∷ 97 ∷ 108 ∷ 105 ∷ 100 ∷ 97 ∷ 116 ∷ 101 ∷ 100 ∷ 32 ∷ []
+
+abbrev pub wCandidate : List ℕ
+wCandidate = 40 ∷ 99 ∷ 97 ∷ 110 ∷ 100 ∷ 105 ∷ 100 ∷ 97 ∷ 116 ∷ 101 ∷ 32 ∷ []
+
+abbrev pub wEnded : List ℕ
+wEnded = 40 ∷ 101 ∷ 110 ∷ 100 ∷ 101 ∷ 100 ∷ 32 ∷ []
+
+abbrev pub wMissing : List ℕ
+wMissing = 40 ∷ 109 ∷ 105 ∷ 115 ∷ 115 ∷ 105 ∷ 110 ∷ 103 ∷ 32 ∷ []
+
+abbrev pub wInvalid : List ℕ
+wInvalid = 40 ∷ 105 ∷ 110 ∷ 118 ∷ 97 ∷ 108 ∷ 105 ∷ 100 ∷ 32 ∷ []
+
+abbrev pub wValid : List ℕ
+wValid = 40 ∷ 118 ∷ 97 ∷ 108 ∷ 105 ∷ 100 ∷ 32 ∷ []
 
 abbrev pub wRemoved : List ℕ
 wRemoved = 40 ∷ 114 ∷ 101 ∷ 109 ∷ 111 ∷ 118 ∷ 101 ∷ 100 ∷ []
@@ -166,6 +186,22 @@ orRefused t (said b) = []
 orRefused t (entry k w b) = []
 orRefused t none = []
 
+-- a call of a pass: opened; a candidate or the end; what became of the candidate. What is no outcome of one prints nothing.
+unfoldable pub passText : Outcome → List ℕ
+passText done = wOpened
+passText (candidate k) = named wCandidate k
+passText (ended n) = numbered wEnded n
+passText (missing k) = named wMissing k
+passText needed = wNeeded
+passText (invalid k) = named wInvalid k
+passText (valid k) = named wValid k
+passText (refused n k) = refusedText n
+passText (wrote k) = []
+passText (number n) = []
+passText (said b) = []
+passText (entry k w b) = []
+passText none = []
+
 -- a query's answer
 abbrev yesNo : Bool → List ℕ
 yesNo true = wYes
@@ -211,6 +247,10 @@ pairOf b = record { one = b .count; two = b .total }
 
 unfoldable pub histogramText : fees.Histogram → List ℕ
 histogramText t = orRefused (binsText (map pairOf (t .bins))) (t .outcome)
+
+-- .. and ids
+unfoldable pub sentText : Result → List ℕ
+sentText s = orRefused (listed wIds (s .written)) (s .outcome)
 
 -- ---- what a form's fields stand for
 
@@ -297,7 +337,7 @@ pub record Line : Type 0 where
   pub text : List ℕ
   pub ready : Bool
   pub config : MempoolConfig
-  pub pass : Pass
+  pub pass : PassNow
   pub world : World
   pub stats : FeeStats
   pub written : List ℕ
@@ -311,7 +351,7 @@ module _ (e b k p a : List ℕ) (h : Kept) where
         text = t;
         ready = h .ready;
         config = h .mempool .config;
-        pass = h .mempool .pass;
+        pass = passOf (h .mempool .pass);
         world = worldOf e b k p (h .mempool);
         stats = h .stats;
         written = idsTo 4 a (h .written);
@@ -324,7 +364,7 @@ module _ (e b k p a : List ℕ) (h : Kept) where
         text = wReady;
         ready = true;
         config = st .config;
-        pass = st .pass;
+        pass = passOf (st .pass);
         world = worldOf e b k p st;
         stats = fresh 0;
         written = [];
@@ -334,7 +374,7 @@ module _ (e b k p a : List ℕ) (h : Kept) where
         text = refusedText n;
         ready = h .ready;
         config = h .mempool .config;
-        pass = h .mempool .pass;
+        pass = passOf (h .mempool .pass);
         world = worldOf e b k p (h .mempool);
         stats = h .stats;
         written = [];
@@ -347,7 +387,7 @@ module _ (e b k p a : List ℕ) (h : Kept) where
         text = txText (s .outcome) x (take (countOf 4 a) (s .written));
         ready = true;
         config = h .mempool .config;
-        pass = h .mempool .pass;
+        pass = passOf (h .mempool .pass);
         world = s .world;
         stats = h .stats;
         written = take (countOf 4 a) (s .written);
@@ -360,7 +400,7 @@ module _ (e b k p a : List ℕ) (h : Kept) where
         text = orRefused (listed wRemoved (s .result .written)) (s .result .outcome);
         ready = true;
         config = h .mempool .config;
-        pass = h .mempool .pass;
+        pass = passOf (h .mempool .pass);
         world = s .result .world;
         stats = s .stats;
         written = s .result .written;
@@ -373,7 +413,20 @@ module _ (e b k p a : List ℕ) (h : Kept) where
         text = orRefused t (s .outcome);
         ready = true;
         config = h .mempool .config;
-        pass = h .mempool .pass;
+        pass = passOf (h .mempool .pass);
+        world = s .world;
+        stats = h .stats;
+        written = [];
+      }
+
+  -- a call of a pass: it writes no ids and leaves the statistics, and the pass is what it is to come to
+  unfoldable pub passLine : PassResult → Line
+  passLine s =
+      record {
+        text = passText (s .outcome);
+        ready = true;
+        config = h .mempool .config;
+        pass = s .pass;
         world = s .world;
         stats = h .stats;
         written = [];
@@ -386,36 +439,44 @@ module _ (e b k p a : List ℕ) (h : Kept) where
       doneLine (named wReturned (idOf (g .id))) (returned (entriesRoom e) (boxesRoom b) (h .mempool) (worldOf e b k p (h .mempool)) (unconfirmedOf g) f s)
   altered f s (Block g) = appliedLine (blockResult e b k p a (h .mempool) (h .stats) (g .time) f s)
   altered f s (Invalidate time x) = doneLine (named wInvalidated (idOf x)) (invalidated (h .mempool) (worldOf e b k p (h .mempool)) time (idOf x))
+  altered f s (Open time limit preheader) = passLine (opened (worldOf e b k p (h .mempool)) (passOf (h .mempool .pass)) time limit preheader)
+  altered f s Next = passLine (nexted (h .mempool .config) (worldOf e b k p (h .mempool)) (passOf (h .mempool .pass)))
+  altered f s (Answer n verdict) = passLine (answered (h .mempool .config) (worldOf e b k p (h .mempool)) (passOf (h .mempool .pass)) f (verdictOf verdict))
 
-  -- a query's text; `room`: the words of the buffer that lists go to
-  unfoldable pub asked : ℕ → Query → List ℕ
-  asked room (Lists limit) = listingText (topOf e (h .mempool) room limit)
-  asked room Len = numbered wLen (h .mempool .counts .pooled)
-  asked room (Contains time x) = queryText (containsOf e k (h .mempool) time (idOf x))
-  asked room (Spending x) = queryText (spendingOf e b (h .mempool) (idOf x))
-  asked room (Fee minutes size) = numberText wFee (recommended (h .stats) (h .mempool) minutes size)
-  asked room (Wait time fee size) = numberText wWait (expectedWait e (h .stats) (h .mempool) time fee size)
-  asked room (Histogram time bins longest) = histogramText (histogramOf e (h .mempool) room time bins longest)
-  asked room Charges = chargesText (h .mempool .sums .«interblock_cost») (flatPeers p (h .mempool .sums .peers))
-  asked room Written = listed wIds (idsTo 4 a (h .written))
+  -- a query's text; `room`: the words of the buffer that lists go to; f: the words that were read, of which a rebroadcast's list has the first
+  unfoldable pub asked : ℕ → List ℕ → Query → List ℕ
+  asked room f (Lists limit) = listingText (topOf e (h .mempool) room limit)
+  asked room f Len = numbered wLen (h .mempool .counts .pooled)
+  asked room f (Contains time x) = queryText (containsOf e k (h .mempool) time (idOf x))
+  asked room f (Spending x) = queryText (spendingOf e b (h .mempool) (idOf x))
+  asked room f (Fee minutes size) = numberText wFee (recommended (h .stats) (h .mempool) minutes size)
+  asked room f (Wait time fee size) = numberText wWait (expectedWait e (h .stats) (h .mempool) time fee size)
+  asked room f (Histogram time bins longest) = histogramText (histogramOf e (h .mempool) room time bins longest)
+  asked room f (Rebroadcast n) = sentText (rebroadcast (h .mempool) (worldOf e b k p (h .mempool)) (room / 4) (take n f))
+  asked room f Charges = chargesText (h .mempool .sums .«interblock_cost») (flatPeers p (h .mempool .sums .peers))
+  asked room f Written = listed wIds (idsTo 4 a (h .written))
 
   -- a call that may be made: n is the line's number, f and s the words that were read, of which the form's lists have the first
   unfoldable pub called : ℕ → ℕ → List ℕ → List ℕ → Call → Line
   called n room f s (Start g) = startedLine (started (sizes (entriesRoom e) (boxesRoom b) (cacheRoom k) (length p / 2)) (configOf g))
   called n room f s (Alter g) = altered (take (wordsOf g .one) f) (take (wordsOf g .two) s) g
-  called n room f s (Ask q) = same (asked room q)
-  called n room f s NotThere = same (unreadText n)
+  called n room f s (Ask q) = same (asked room f q)
+  called n room f s Unreadable = same (unreadText n)
 
   -- "Before the first `(ready)` any form but `pool` prints `(no pool)`"
   unfoldable pub lineOf : ℕ → ℕ → List ℕ → List ℕ → Call → Line
   lineOf n room f s c = pick (lacksPool (h .ready) c) (same wNoPool) (called n room f s c)
 
--- ---- on the edges of docs/FORMS.md: `(removed a4 a1)`, none removed, and a refused block; `(fee 4000)`; `(bins (0 0) (1 4096))`
+-- ---- on the edges of docs/FORMS.md: `(removed a4 a1)`, none removed, and a refused block; `(fee 4000)`; `(bins (0 0) (1 4096))`; `(candidate a5)`, `(ended 600)`, an
+-- unanswered candidate's `(verdict needed)`
 
 text-edges : (orRefused (listed wRemoved (164 ∷ 161 ∷ [])) (wrote 2) ≡ 40 ∷ 114 ∷ 101 ∷ 109 ∷ 111 ∷ 118 ∷ 101 ∷ 100 ∷ 32 ∷ 97 ∷ 52 ∷ 32 ∷ 97 ∷ 49 ∷ 41 ∷ [])
     × (orRefused (listed wRemoved []) (wrote 0) ≡ 40 ∷ 114 ∷ 101 ∷ 109 ∷ 111 ∷ 118 ∷ 101 ∷ 100 ∷ 41 ∷ [])
     × (orRefused (listed wRemoved []) (refused 20 0) ≡ 40 ∷ 114 ∷ 101 ∷ 102 ∷ 117 ∷ 115 ∷ 101 ∷ 100 ∷ 32 ∷ 50 ∷ 48 ∷ 41 ∷ [])
     × (numberText wFee (number 4000) ≡ 40 ∷ 102 ∷ 101 ∷ 101 ∷ 32 ∷ 52 ∷ 48 ∷ 48 ∷ 48 ∷ 41 ∷ [])
     × (histogramText (fees.histogram (wrote 2) (bin 0 0 ∷ bin 1 4096 ∷ [])) ≡ 40 ∷ 98 ∷ 105 ∷ 110 ∷ 115 ∷ 32 ∷ 40 ∷ 48 ∷ 32 ∷ 48 ∷ 41 ∷ 32 ∷ 40 ∷ 49 ∷ 32 ∷ 52 ∷ 48 ∷ 57 ∷ 54 ∷ 41 ∷ 41 ∷ [])
-unfolding orRefused numberText histogramText refusedText listed numbered binsText pairText numeral digitByte
-text-edges = (refl, refl, refl, refl, refl)
+    × (passText (candidate 165) ≡ 40 ∷ 99 ∷ 97 ∷ 110 ∷ 100 ∷ 105 ∷ 100 ∷ 97 ∷ 116 ∷ 101 ∷ 32 ∷ 97 ∷ 53 ∷ 41 ∷ [])
+    × (passText (ended 600) ≡ 40 ∷ 101 ∷ 110 ∷ 100 ∷ 101 ∷ 100 ∷ 32 ∷ 54 ∷ 48 ∷ 48 ∷ 41 ∷ [])
+    × (passText needed ≡ 40 ∷ 118 ∷ 101 ∷ 114 ∷ 100 ∷ 105 ∷ 99 ∷ 116 ∷ 32 ∷ 110 ∷ 101 ∷ 101 ∷ 100 ∷ 101 ∷ 100 ∷ 41 ∷ [])
+unfolding orRefused numberText passText histogramText refusedText listed named numbered binsText pairText numeral digitByte
+text-edges = (refl, refl, refl, refl, refl, refl, refl, refl)

@@ -19,7 +19,9 @@ use Rattle.pool_types.specs.declared.Submission.{Submission}
 use Rattle.pool_types.specs.declared.Verdict.{Verdict}
 use Rattle.pool_types.specs.declared.Verdict.the-variants.{Valid, Invalid, Absent}
 use Rattle.pool_types.specs.declared.StartOutcome.the-variants.{Ready, NotStarted}
-use Rattle.pool_types.specs.Outcomes.{Outcome, refused, done, wrote, processedOf}
+use Rattle.pool_types.specs.declared.ListOutcome.{ListOutcome}
+use Rattle.pool_types.specs.declared.ListOutcome.the-variants.{Listed, NotListed}
+use Rattle.pool_types.specs.Outcomes.{Outcome, refused, done, wrote, processedOf, listedOf}
 use Rattle.entries.specs.Entries.{Entry}
 use Rattle.boxes.specs.Flat.{countOf, idsTo, idsOf, ids}
 use Rattle.pool.specs.Pool.{Tables, removeAll, evicted, fitsTest}
@@ -40,6 +42,9 @@ use Rattle.store.specs.Fits.{Fits, goes-on, un-not}
 use Rattle.process.specs.Post.{Post}
 use Rattle.process.specs.declared.Processed.{Processed}
 use Rattle.returns.specs.Post.{Meets}
+use Rattle.cleanup.specs.Passes.{passOf, PassResult}
+use Rattle.cleanup.specs.Rebroadcast.{chosen, rebroadcastRefusal, rebroadcast}
+use Rattle.cleanup.specs.Post.{PassPost, Sent}
 use Rattle.blocks.specs.Blocks as blocks
 use Rattle.blocks.specs.Blocks.{BlockResult, appliedTxs, confirmedOf, blockRefusal, begun, applied}
 use Rattle.blocks.specs.Post.{Post as BlockPost}
@@ -47,13 +52,14 @@ use Rattle.blocks.specs.declared.Applied.{Applied}
 use Rattle.mempool.specs.Start.{Sizes, sizes, within, sized, settled as settles, empty, started}
 use Rattle.lines.specs.declared.read.PoolForm.{PoolForm}
 use Rattle.console.specs.declared.calls.Call.{Call}
-use Rattle.console.specs.declared.calls.Call.the-variants.{Start, Alter, Ask, NotThere}
+use Rattle.console.specs.declared.calls.Call.the-variants.{Start, Alter, Ask, Unreadable}
 use Rattle.console.specs.declared.calls.Change.{Change}
 use Rattle.console.specs.declared.calls.Query.{Query}
 use Rattle.console.specs.declared.calls.Words.{Words}
 use Rattle.console.specs.Calls.{lacksPool, wordsOf}
-use Rattle.console.specs.Console.{Line, wReady, wNoPool, refusedText, unreadText, txText, orRefused, writtenIn, configOf, noConfig, nothing, processedLine, appliedLine, doneLine, altered, startedLine, same, asked, called, lineOf}
-use Rattle.console.specs.Texts.{prints-as}
+use Rattle.console.specs.Console.{Line, wReady, wNoPool, wIds, refusedText, sentText, unreadText, txText, orRefused, passText, writtenIn, configOf, noConfig, nothing, processedLine, appliedLine, doneLine, passLine, altered, startedLine, same, asked, called, lineOf}
+use Rattle.console.specs.Texts.{prints-as, list-count, list-text, list-refused}
+use Rattle.replies.specs.Replies.{listed}
 use Rattle.console.specs.After.{Holds, After, ToldOf, ToldBlock}
 use Rattle.console.specs.declared.Kept.{Kept}
 use Rattle.console.specs.declared.Told.{Told}
@@ -152,6 +158,12 @@ shown l m ks n w q =
     let y : 0 + length ks ≡ length ks = omega arith in
     sym f ∙ rw (w .ids, q) (rw (y, z) at s)
 
+-- where each has its place, they are all there
+pub shown-whole : (l m ks : List ℕ) → Wrote l m 0 ks → length ks ≤ countOf 4 l → idsTo 4 m (length ks) ≡ ks
+shown-whole l m ks w h =
+    let z : min (length ks) (countOf 4 l) ≡ length ks = omega arith in
+    rw z at (shown l m ks (length ks) w refl) ∙ take-all (countOf 4 l) ks h
+
 -- a part of a list that is longer than the list is the list
 pub take-min : (n m : ℕ) (l : List ℕ) → m ≡ min n (length l) → take m l ≡ take n l
 take-min n m l q = rw q (go (native.Mathlib.Decide.decLe n (length l)))
@@ -178,7 +190,7 @@ module _ (e b k p a e' b' k' p' a' : List ℕ) (h : Kept) (r : Processed) (s : R
         prints = prints-as (rw (d .outcome, held)) (w .prints);
         ready = w .ready;
         config = rw (w .mempool) (d .config);
-        pass = rw (w .mempool) (d .pass);
+        pass = rw (w .mempool) (ap passOf (d .pass));
         world = rw (w .mempool) (d .world);
         stats = w .stats;
         written = held;
@@ -210,9 +222,7 @@ module _ (e b k p a e' b' k' a' : List ℕ) (h : Kept) (r : Applied) (s : BlockR
   count-removed = let z : t .kept .written ≡ min (length (s .result .written)) (length a / 4) = w .written ∙ rw (d .outcome, y, d .wrote .kept) in omega (arith, z, d .placed)
 
   held-removed : idsTo 4 a' (t .kept .written) ≡ s .result .written
-  held-removed =
-      let z : min (length (s .result .written)) (countOf 4 a) ≡ length (s .result .written) = omega (arith, d .placed) in
-      rw count-removed (rw z at (shown a a' (s .result .written) (length (s .result .written)) (d .wrote) refl)) ∙ take-all (countOf 4 a) (s .result .written) (d .placed)
+  held-removed = rw count-removed (shown-whole a a' (s .result .written) (d .wrote) (d .placed))
 
   pub after-applied : After e' b' k' p a' o₀ o t (appliedLine e b k p a h s)
   unfolding appliedLine
@@ -222,11 +232,41 @@ module _ (e b k p a e' b' k' a' : List ℕ) (h : Kept) (r : Applied) (s : BlockR
         prints = prints-as (rw (d .outcome, held-removed)) (w .prints);
         ready = w .ready;
         config = rw (w .mempool) (d .config);
-        pass = rw (w .mempool) (d .pass);
+        pass = rw (w .mempool) (ap passOf (d .pass));
         world = rw (w .mempool) (d .world);
         stats = w .stats ∙ d .stats;
         written = held-removed;
       }
+
+-- ---- a rebroadcast's text
+
+says-sent : (st : Mempool) (w : World) (room : ℕ) (c : List ℕ) → writtenIn (rebroadcast st w room c .outcome) ≡ length (rebroadcast st w room c .written)
+unfolding rebroadcast writtenIn
+says-sent st w room c = go (eqb (rebroadcastRefusal st room c) 0)
+  where
+    go : (t : Bool) → writtenIn (pick t (record { outcome = wrote (length (chosen (st .config .«rebroadcast_count») (idsOf 4 c) (w .tables))); world = w; written = chosen (st .config .«rebroadcast_count») (idsOf 4 c) (w .tables) }) (unchanged (refused (rebroadcastRefusal st room c) 0) w) .outcome)
+        ≡ length (pick t (record { outcome = wrote (length (chosen (st .config .«rebroadcast_count») (idsOf 4 c) (w .tables))); world = w; written = chosen (st .config .«rebroadcast_count») (idsOf 4 c) (w .tables) }) (unchanged (refused (rebroadcastRefusal st room c) 0) w) .written)
+    go true = refl
+    go false = refl
+
+module _ {l m : List ℕ} {r : ListOutcome} {n : ℕ} (st : Mempool) (w : World) (c : List ℕ) (d : Sent l m (listedOf r) w (rebroadcast st w (length l / 4) c)) where
+  sent-count : r ≡ Listed n → n ≡ length (rebroadcast st w (length l / 4) c .written)
+  sent-count q = list-count (d .outcome) q ∙ says-sent st w (length l / 4) c
+
+  pub sent-placed : r ≡ Listed n → n ≤ length l / 4
+  sent-placed q = omega (arith, sent-count q, d .placed)
+
+  pub sent-ids : r ≡ Listed n → listed wIds (idsTo 4 m n) ≡ sentText (rebroadcast st w (length l / 4) c)
+  unfolding sentText
+  sent-ids q = list-text (idsTo 4) (listed wIds) m (d .outcome) q (sent-count q) (shown-whole l m (rebroadcast st w (length l / 4) c .written) (d .wrote) (d .placed))
+
+  pub sent-not : r ≡ NotListed n → refusedText n ≡ sentText (rebroadcast st w (length l / 4) c)
+  unfolding sentText
+  sent-not q = list-refused _ (d .outcome) q
+
+-- the list is cut where the form's number of words says, or where the words end
+pub sent-cut : (st : Mempool) (w : World) (room n m : ℕ) (f : List ℕ) → m ≡ min n (length f) → sentText (rebroadcast st w room (take m f)) ≡ sentText (rebroadcast st w room (take n f))
+sent-cut st w room n m f q = ap (λ (x : List ℕ). sentText (rebroadcast st w room x)) (take-min n m f q)
 
 -- ---- the line of a call that writes no ids
 
@@ -237,6 +277,21 @@ after-done e b k p a e' b' k' p' o₀ o h r n s u len d t =
     record {
       holds = record { fits = d .fits; written = omega arith };
       prints = prints-as (ap (orRefused u) (d .outcome)) t;
+      ready = refl;
+      config = d .config;
+      pass = ap passOf (d .pass);
+      world = d .world;
+      stats = refl;
+      written = of-none (ids 4) a;
+    }
+
+pub after-pass : (e b k p a e' b' k' p' o₀ o : List ℕ) (h : Kept) (r : Mempool) (n : Outcome) (s : PassResult) (len : ℕ) → PassPost (h .mempool) r n e' b' k' p' s → Prints (passText n) 0 o₀ o len
+    → After e' b' k' p' a o₀ o (record { kept = record { ready = true; mempool = r; stats = h .stats; written = 0 }; len = len }) (passLine e b k p a h s)
+unfolding passLine
+after-pass e b k p a e' b' k' p' o₀ o h r n s len d t =
+    record {
+      holds = record { fits = d .fits; written = omega arith };
+      prints = prints-as (ap passText (d .outcome)) t;
       ready = refl;
       config = d .config;
       pass = d .pass;
@@ -358,11 +413,11 @@ module _ (e b k p a : List ℕ) (h : Kept) (n room : ℕ) (f s : List ℕ) (call
   unfolding called
   called-altered g q = rw q
 
-  pub called-asked : (t : Query) → call ≡ Ask t → called e b k p a h n room f s call ≡ same e b k p a h (asked e b k p a h room t)
+  pub called-asked : (t : Query) → call ≡ Ask t → called e b k p a h n room f s call ≡ same e b k p a h (asked e b k p a h room f t)
   unfolding called
   called-asked t q = rw q
 
-  pub called-unread : call ≡ NotThere → called e b k p a h n room f s call ≡ same e b k p a h (unreadText n)
+  pub called-unread : call ≡ Unreadable → called e b k p a h n room f s call ≡ same e b k p a h (unreadText n)
   unfolding called
   called-unread q = rw q
 

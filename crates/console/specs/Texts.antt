@@ -95,17 +95,17 @@ module _ (o : ProcessingOutcome) (x : ℕ) (ks : List ℕ) where
 -- ---- lists that go through the buffer of the queries
 
 -- the outcome says how long the list is
-list-count : {r : ListOutcome} {o : Outcome} {n : ℕ} → listedOf r ≡ o → r ≡ Listed n → n ≡ writtenIn o
+pub list-count : {r : ListOutcome} {o : Outcome} {n : ℕ} → listedOf r ≡ o → r ≡ Listed n → n ≡ writtenIn o
 unfolding listedOf writtenIn
 list-count q p = rw (← q, p)
 
 -- records as their table reads them from the buffer m and f prints them
-list-text : {A : Type 0} {r : ListOutcome} {o : Outcome} {xs : List A} {n : ℕ} (of : List ℕ → ℕ → List A) (f : List A → List ℕ) (m : List ℕ) → listedOf r ≡ o → r ≡ Listed n → n ≡ length xs → of m (length xs) ≡ xs
+pub list-text : {A : Type 0} {r : ListOutcome} {o : Outcome} {xs : List A} {n : ℕ} (of : List ℕ → ℕ → List A) (f : List A → List ℕ) (m : List ℕ) → listedOf r ≡ o → r ≡ Listed n → n ≡ length xs → of m (length xs) ≡ xs
     → f (of m n) ≡ orRefused (f xs) o
 unfolding listedOf orRefused
 list-text of f m q p c y = ap f (ap (of m) c ∙ y) ∙ rw (← q, p)
 
-list-refused : {r : ListOutcome} {o : Outcome} {n : ℕ} (t : List ℕ) → listedOf r ≡ o → r ≡ NotListed n → refusedText n ≡ orRefused t o
+pub list-refused : {r : ListOutcome} {o : Outcome} {n : ℕ} (t : List ℕ) → listedOf r ≡ o → r ≡ NotListed n → refusedText n ≡ orRefused t o
 unfolding listedOf orRefused
 list-refused t q p = rw (← q, p)
 

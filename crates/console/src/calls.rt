@@ -1,4 +1,5 @@
 // The call that a form asks for.
+use lines::fields::Verdict;
 use lines::read::BlockForm;
 use lines::read::Form;
 use lines::read::PoolForm;
@@ -23,6 +24,8 @@ pub enum Query {
     Wait(u64, u64, u32),
     // time, bins, longest
     Histogram(u64, u32, u64),
+    // words of box ids
+    Rebroadcast(usize),
     Charges,
     Written,
 }
@@ -34,14 +37,19 @@ pub enum Change {
     Block(BlockForm),
     // time, id
     Invalidate(u64, Id),
+    // time, limit, preheader
+    Open(u64, u64, u32),
+    Next,
+    // words of flags, verdict
+    Answer(usize, Verdict),
 }
 
 pub enum Call {
     Start(PoolForm),
     Alter(Change),
     Ask(Query),
-    // no form, or one whose call is not there yet
-    NotThere,
+    // no form
+    Unreadable,
 }
 
 // How many words the lists of a form have in the two slices that they are read into.
@@ -59,6 +67,9 @@ pub fn call_of(form: Form) -> Call
         Form::Return(g) => Call::Alter(Change::Return(g)),
         Form::Block(g) => Call::Alter(Change::Block(g)),
         Form::Invalidate(time, id) => Call::Alter(Change::Invalidate(time, id)),
+        Form::Open(time, limit, preheader) => Call::Alter(Change::Open(time, limit, preheader)),
+        Form::Next => Call::Alter(Change::Next),
+        Form::Answer(n, verdict) => Call::Alter(Change::Answer(n, verdict)),
         Form::List => Call::Ask(Query::Listing(u64::MAX)),
         Form::Top(limit) => Call::Ask(Query::Listing(limit)),
         Form::Len => Call::Ask(Query::Len),
@@ -67,13 +78,10 @@ pub fn call_of(form: Form) -> Call
         Form::Fee(minutes, size) => Call::Ask(Query::Fee(minutes, size)),
         Form::Wait(time, fee, size) => Call::Ask(Query::Wait(time, fee, size)),
         Form::Histogram(time, bins, longest) => Call::Ask(Query::Histogram(time, bins, longest)),
+        Form::Rebroadcast(n) => Call::Ask(Query::Rebroadcast(n)),
         Form::Charges => Call::Ask(Query::Charges),
         Form::Written => Call::Ask(Query::Written),
-        Form::Open(_, _, _) => Call::NotThere,
-        Form::Next => Call::NotThere,
-        Form::Answer(_, _) => Call::NotThere,
-        Form::Rebroadcast(_) => Call::NotThere,
-        Form::Unread => Call::NotThere,
+        Form::Unread => Call::Unreadable,
     }
 }
 
@@ -85,7 +93,7 @@ pub fn lacks_pool(ready: bool, call: Call) -> bool
         Call::Start(_) => false,
         Call::Alter(_) => !ready,
         Call::Ask(_) => !ready,
-        Call::NotThere => false,
+        Call::Unreadable => false,
     }
 }
 
@@ -106,5 +114,8 @@ pub fn words_of(change: Change) -> Words
             two: g.inputs,
         },
         Change::Invalidate(_, _) => Words { one: 0, two: 0 },
+        Change::Open(_, _, _) => Words { one: 0, two: 0 },
+        Change::Next => Words { one: 0, two: 0 },
+        Change::Answer(n, _) => Words { one: n, two: 0 },
     }
 }

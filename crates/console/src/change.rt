@@ -6,6 +6,9 @@ use crate::block::on_block;
 use crate::calls::Change;
 use crate::calls::words_of;
 use crate::invalidation::on_invalidate;
+use crate::pass::on_answer;
+use crate::pass::on_next;
+use crate::pass::on_open;
 use crate::returning::on_return;
 use crate::submit::on_tx;
 ghost use Prim.Native.Nat.{_≤_};
@@ -37,6 +40,9 @@ fn make(
         Change::Return(g) => on_return(entries, boxes, one, two, kept, g, out),
         Change::Block(g) => on_block(entries, boxes, cache, answer, one, two, kept, g, out),
         Change::Invalidate(time, id) => on_invalidate(entries, boxes, cache, kept, time, id, out),
+        Change::Open(time, limit, preheader) => on_open(kept, time, limit, preheader, out),
+        Change::Next => on_next(entries, kept, out),
+        Change::Answer(_, verdict) => on_answer(entries, boxes, cache, one, kept, verdict, out),
     }
 }
 

@@ -5,6 +5,7 @@ pub mod calls;
 pub mod change;
 pub mod estimates;
 pub mod invalidation;
+pub mod pass;
 pub mod query;
 pub mod returning;
 pub mod start;
@@ -69,10 +70,21 @@ pub fn tell(
         Call::Start(p) => on_pool(entries, boxes, cache, peers, answer, kept, p, out),
         Call::Alter(g) => alter(entries, boxes, cache, peers, answer, one, two, kept, g, out),
         Call::Ask(q) => {
-            let len = ask(entries, boxes, cache, peers, answer, listing, kept, q, out);
+            let len = ask(
+                entries,
+                boxes,
+                cache,
+                peers,
+                answer,
+                listing,
+                one,
+                kept,
+                q,
+                out,
+            );
             Told { kept, len }
         }
-        Call::NotThere => {
+        Call::Unreadable => {
             let len = unread(out, number);
             Told { kept, len }
         }

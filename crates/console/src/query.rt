@@ -1,10 +1,12 @@
 // The queries: they change nothing but what is printed.
 use crate::Kept;
 use crate::answer::refused;
+use crate::answer::smaller;
 use crate::calls::Query;
 use crate::estimates::on_fee;
 use crate::estimates::on_histogram;
 use crate::estimates::on_wait;
+use cleanup::rebroadcast::select_for_rebroadcast;
 use mempool::listing::top;
 use mempool::queries::contains;
 use mempool::queries::len;
@@ -21,13 +23,17 @@ use replies::with_ids;
 use replies::with_number;
 use words::ids::Id;
 ghost use mathlib.Core.Path.{_≡_};
-ghost use Prim.Native.Nat.{_≤_};
-ghost use lib.ListN.{length};
+ghost use Prim.Native.Nat.{ℕ, _/_, _≤_};
+ghost use mathlib.Core.List.{List};
+ghost use lib.ListN.{length, take};
 ghost use Rattle.words.specs.Ids.{idOf};
 ghost use Rattle.forms.specs.Nums.{Prints};
+ghost use Rattle.pool.specs.Pool.{PoolFits};
+ghost use Rattle.store.specs.World.{worldOf};
+ghost use Rattle.cleanup.specs.Rebroadcast.{rebroadcast};
 ghost use Rattle.mempool.specs.Listing.{topOf};
 ghost use Rattle.mempool.specs.Queries.{containsOf, spendingOf};
-ghost use Rattle.console.specs.Console.{listingText, queryText, asked};
+ghost use Rattle.console.specs.Console.{listingText, queryText, sentText, asked};
 ghost use Rattle.console.specs.After.{Holds};
 
 pub fn on_top(
@@ -84,7 +90,29 @@ pub fn on_spending(
     }
 }
 
-// A query's answer, of a pool that is there.
+// The list of confirmed boxes has the first `n` words of `one`, or all where there are fewer. Cache and peers are whatever is held.
+pub fn on_rebroadcast(
+    entries: &[u64],
+    boxes: &[u64],
+    listing: &mut [u64],
+    one: &[u64],
+    mempool: Mempool,
+    n: usize,
+    out: &mut [u8],
+) -> usize
+    requires { ⌜ PoolFits (now entries) (now boxes) (mempool .counts) ⌝ }
+    requires { ⌜ (length (now listing) ≤ 1024) × (32768 ≤ length (now out)) ⌝ }
+    ensures { λ r. ⌜ ((k p : List ℕ) → Prints (sentText (rebroadcast mempool (worldOf (now (entries .entry)) (now (boxes .entry)) k p mempool) (length (now (listing .entry)) / 4) (take n (now (one .entry))))) 0 (now (out .entry)) (now (out .exit)) r) ⌝ }
+{
+    let m = smaller(n, one.len());
+    let sent = select_for_rebroadcast(entries, boxes, listing, mempool, &one[..m]);
+    match sent {
+        ListOutcome::Listed(k) => with_ids(out, b"(ids", &listing[..], k),
+        ListOutcome::NotListed(k) => refused(out, k),
+    }
+}
+
+// A query's answer, of a pool that is there. The words of its list stand at the front of `one`.
 pub fn ask(
     entries: &[u64],
     boxes: &[u64],
@@ -92,6 +120,7 @@ pub fn ask(
     peers: &[u64],
     answer: &[u64],
     listing: &mut [u64],
+    one: &[u64],
     kept: Kept,
     query: Query,
     out: &mut [u8],
@@ -99,7 +128,7 @@ pub fn ask(
     requires { ⌜ Holds (now entries) (now boxes) (now cache) (now peers) (now answer) kept ⌝ }
     requires { ⌜ (length (now answer) ≤ 1024) × (length (now listing) ≤ 1024) ⌝ }
     requires { ⌜ 32768 ≤ length (now out) ⌝ }
-    ensures { λ r. ⌜ Prints (asked (now (entries .entry)) (now (boxes .entry)) (now (cache .entry)) (now (peers .entry)) (now (answer .entry)) kept (length (now (listing .entry))) query) 0 (now (out .entry)) (now (out .exit)) r ⌝ }
+    ensures { λ r. ⌜ Prints (asked (now (entries .entry)) (now (boxes .entry)) (now (cache .entry)) (now (peers .entry)) (now (answer .entry)) kept (length (now (listing .entry))) (now (one .entry)) query) 0 (now (out .entry)) (now (out .exit)) r ⌝ }
 {
     let mempool = kept.mempool;
     let stats = kept.stats;
@@ -113,6 +142,7 @@ pub fn ask(
         Query::Histogram(time, bins, longest) => {
             on_histogram(entries, mempool, listing, time, bins, longest, out)
         }
+        Query::Rebroadcast(n) => on_rebroadcast(entries, boxes, listing, one, mempool, n, out),
         Query::Charges => charges(out, mempool.sums.interblock_cost, peers, mempool.sums.peers),
         Query::Written => with_ids(out, b"(ids", answer, kept.written),
     }

@@ -36,7 +36,7 @@ pub fn source_of(peer: Optional) -> Source
     }
 }
 
-fn verdict_of(v: lines::fields::Verdict) -> Verdict
+pub fn verdict_of(v: lines::fields::Verdict) -> Verdict
     ensures { λ r. ⌜ r ≡ verdictOf v ⌝ }
 {
     match v {

@@ -5,6 +5,9 @@ use Rattle.console.proofs.change.make.Reads as reads
 use Rattle.console.proofs.change.make.Lts as lts
 use Rattle.console.proofs.block.on_block.Reads as on-block-reads
 use Rattle.console.proofs.invalidation.on_invalidate.Reads as on-invalidate-reads
+use Rattle.console.proofs.pass.on_answer.Reads as on-answer-reads
+use Rattle.console.proofs.pass.on_next.Reads as on-next-reads
+use Rattle.console.proofs.pass.on_open.Reads as on-open-reads
 use Rattle.console.proofs.returning.on_return.Reads as on-return-reads
 use Rattle.console.proofs.submit.on_tx.Reads as on-tx-reads
 
@@ -39,6 +42,24 @@ enum-known-change-4 c = search needs
 -- src/change.rt:39:41
 on-invalidate-requires : tie.Need-on-invalidate-requires
 on-invalidate-requires c κs = search needs
+
+enum-known-change-5 : tie.Need-enum-known-change-5
+enum-known-change-5 c = search needs
+
+on-open-requires : tie.Need-on-open-requires
+on-open-requires c κs = search needs
+
+enum-told : tie.Need-enum-told
+enum-told c = search needs
+
+on-next-requires : tie.Need-on-next-requires
+on-next-requires c κs = search needs
+
+enum-known-change-6 : tie.Need-enum-known-change-6
+enum-known-change-6 c = search needs
+
+on-answer-requires : tie.Need-on-answer-requires
+on-answer-requires c κs = search needs
 
 -- src/change.rt:18:1
 same-length : tie.Need-same-length
@@ -128,6 +149,36 @@ same-length-18 c = search needs
 returns-4 : tie.Need-returns-4
 returns-4 c = rw (c .before .before .before .before .before .before .before .before .before .before .before .before .before .before .change4 .given .1) (c .before .before .before .before .before .before .before .before .on-invalidate .ensures _ _ _ _ (c .before .before .before .before .before .before .before .before .before .before .before .before .before .before .before .before .before .before .before .before .before .before .before .before .pre .0))
 
+same-length-19 : tie.Need-same-length-19
+same-length-19 c = search needs
+
+returns-5 : tie.Need-returns-5
+returns-5 c = rw (c .before .before .before .before .before .change5 .given .1) (c .before .before .on-open .ensures _ _ _ _ _ _ _ (c .before .before .before .before .before .before .before .before .before .before .before .before .before .before .before .pre .0))
+
+same-length-20 : tie.Need-same-length-20
+same-length-20 c = search needs
+
+same-length-21 : tie.Need-same-length-21
+same-length-21 c = search needs
+
+returns-6 : tie.Need-returns-6
+returns-6 c = rw (c .before .before .before .before .before .enum-told .given .1) (c .before .before .on-next .ensures _ _ _ _ _ _ (c .before .before .before .before .before .before .before .before .before .before .before .before .before .before .before .pre .0))
+
+same-length-22 : tie.Need-same-length-22
+same-length-22 c = search needs
+
+same-length-23 : tie.Need-same-length-23
+same-length-23 c = search needs
+
+same-length-24 : tie.Need-same-length-24
+same-length-24 c = search needs
+
+same-length-25 : tie.Need-same-length-25
+same-length-25 c = search needs
+
+returns-7 : tie.Need-returns-7
+returns-7 c = rw (c .before .before .before .before .before .before .before .before .before .before .before .before .before .before .change6 .given .1) (c .before .before .before .before .before .before .before .before .on-answer .ensures _ _ _ _ (c .before .before .before .before .before .before .before .before .before .before .before .before .before .before .before .before .before .before .before .before .before .before .before .before .pre .0))
+
 pub make-spec : {M : Type 1} → statement M
 make-spec =
     tie.close
@@ -140,6 +191,12 @@ make-spec =
     on-block-requires
     enum-known-change-4
     on-invalidate-requires
+    enum-known-change-5
+    on-open-requires
+    enum-told
+    on-next-requires
+    enum-known-change-6
+    on-answer-requires
     same-length
     same-length-2
     same-length-3
@@ -161,4 +218,14 @@ make-spec =
     same-length-16
     same-length-17
     same-length-18
-    returns-4)
+    returns-4
+    same-length-19
+    returns-5
+    same-length-20
+    same-length-21
+    returns-6
+    same-length-22
+    same-length-23
+    same-length-24
+    same-length-25
+    returns-7)

@@ -1,3 +1,4 @@
+use native.Mathlib.Omega.{arith}
 use Rattle.console.specs.Console.{asked}
 use borrow.Author.Needs.{needs}
 use Rattle.console.proofs.query.ask.Statement.{statement}
@@ -8,6 +9,7 @@ use Rattle.console.proofs.estimates.on_fee.Reads as on-fee-reads
 use Rattle.console.proofs.estimates.on_histogram.Reads as on-histogram-reads
 use Rattle.console.proofs.estimates.on_wait.Reads as on-wait-reads
 use Rattle.console.proofs.query.on_contains.Reads as on-contains-reads
+use Rattle.console.proofs.query.on_rebroadcast.Reads as on-rebroadcast-reads
 use Rattle.console.proofs.query.on_spending.Reads as on-spending-reads
 use Rattle.console.proofs.query.on_top.Reads as on-top-reads
 use Rattle.mempool.proofs.queries.len.Reads as len-reads
@@ -78,6 +80,12 @@ enum-known-query-6 c = search needs
 -- src/query.rt:114:13
 on-histogram-requires : tie.Need-on-histogram-requires
 on-histogram-requires c κs = search needs
+
+enum-known-query-7 : tie.Need-enum-known-query-7
+enum-known-query-7 c = search needs
+
+on-rebroadcast-requires : tie.Need-on-rebroadcast-requires
+on-rebroadcast-requires c κs = (c .before .before .before .before .before .before .before .before .before .before .before .before .before .before .before .pre .0 .fits .tests .pool, (omega (arith, c .before .before .before .before .before .before .before .before .before .before .before .before .before .before .before .pre .1), omega (arith, c .before .before .before .before .before .before .before .before .before .before .before .before .before .before .before .pre .1)))
 
 -- src/query.rt:116:35
 enum-told-2 : tie.Need-enum-told-2
@@ -170,23 +178,29 @@ returns-7 : tie.Need-returns-7
 unfolding asked
 returns-7 c = rw (c .before .before .before .before .before .before .before .before .query6 .given .1) (c .before .before .before .before .on-histogram .ensures)
 
--- src/query.rt:88:1
 same-length-10 : tie.Need-same-length-10
 same-length-10 c = search needs
 
--- src/query.rt:88:1
-returns-8 : tie.Need-returns-8
-unfolding asked
-returns-8 c = rw (c .before .before .before .before .enum-told2 .given .1) (c .before .before .charges .ensures)
-
--- src/query.rt:88:1
 same-length-11 : tie.Need-same-length-11
 same-length-11 c = search needs
 
--- src/query.rt:88:1
+returns-8 : tie.Need-returns-8
+unfolding asked
+returns-8 c = rw (c .before .before .before .before .before .before .before .before .query7 .given .1) (c .before .before .before .before .on-rebroadcast .ensures _ _)
+
+same-length-12 : tie.Need-same-length-12
+same-length-12 c = search needs
+
 returns-9 : tie.Need-returns-9
 unfolding asked
-returns-9 c = rw (c .before .before .before .before .before .enum-told3 .given .1) (c .before .before .with-ids .ensures)
+returns-9 c = rw (c .before .before .before .before .enum-told2 .given .1) (c .before .before .charges .ensures)
+
+same-length-13 : tie.Need-same-length-13
+same-length-13 c = search needs
+
+returns-10 : tie.Need-returns-10
+unfolding asked
+returns-10 c = rw (c .before .before .before .before .before .enum-told3 .given .1) (c .before .before .with-ids .ensures)
 
 pub ask-spec : {M : Type 1} → statement M
 ask-spec =
@@ -208,6 +222,8 @@ ask-spec =
     on-wait-requires
     enum-known-query-6
     on-histogram-requires
+    enum-known-query-7
+    on-rebroadcast-requires
     enum-told-2
     charges-requires
     enum-told-3
@@ -230,6 +246,9 @@ ask-spec =
     same-length-9
     returns-7
     same-length-10
-    returns-8
     same-length-11
-    returns-9)
+    returns-8
+    same-length-12
+    returns-9
+    same-length-13
+    returns-10)
