@@ -8,13 +8,11 @@ use Rattle.boxes.specs.Flat.{countOf, idsTo}
 use Rattle.forms.specs.Nums.{Prints}
 use Rattle.store.specs.World.{worldOf}
 use Rattle.store.specs.Fits.{Fits}
-use Rattle.pool_types.specs.Outcomes.{processedOf, blockOf}
+use Rattle.pool_types.specs.Outcomes.{Outcome}
+use Rattle.pool_types.specs.declared.Mempool.{Mempool}
 use Rattle.stats.specs.declared.FeeStats.{FeeStats}
-use Rattle.process.specs.declared.Processed.{Processed}
-use Rattle.blocks.specs.declared.Applied.{Applied}
 use Rattle.cleanup.specs.Passes.{passOf}
-use Rattle.replies.specs.Replies.{listed}
-use Rattle.console.specs.Console.{Line, same, txText, wRemoved, orRefused, writtenIn}
+use Rattle.console.specs.Console.{Line, same, writtenIn}
 use Rattle.console.specs.declared.Kept.{Kept}
 use Rattle.console.specs.declared.Told.{Told}
 
@@ -23,21 +21,14 @@ pub record Holds (e b k p a : List ℕ) (h : Kept) : Type 0 where
   pub fits : Fits e b k p (h .mempool)
   pub written : h .written ≤ countOf 4 a
 
--- what a submission's answer is made of: the state that it handed back, the ids in the answer buffer, of which those count that it has places for
-pub record ToldOf (a : List ℕ) (s : FeeStats) (d : Processed) (x : ℕ) (o₀ o : List ℕ) (t : Told) : Type 0 where
+-- what the answer of a call that writes ids is made of: the state m and the statistics s that are held then, the ids in the answer buffer, of which
+-- those count that it has places for, and the text of these
+pub record ToldOf (a : List ℕ) (m : Mempool) (s : FeeStats) (n : Outcome) (text : List ℕ → List ℕ) (o₀ o : List ℕ) (t : Told) : Type 0 where
   pub ready : t .kept .ready ≡ true
-  pub mempool : t .kept .mempool ≡ d .mempool
+  pub mempool : t .kept .mempool ≡ m
   pub stats : t .kept .stats ≡ s
-  pub written : t .kept .written ≡ min (writtenIn (processedOf (d .outcome))) (length a / 4)
-  pub prints : Prints (txText (processedOf (d .outcome)) x (idsTo 4 a (t .kept .written))) 0 o₀ o (t .len)
-
--- .. and a block's, with its statistics
-pub record ToldBlock (a : List ℕ) (d : Applied) (o₀ o : List ℕ) (t : Told) : Type 0 where
-  pub ready : t .kept .ready ≡ true
-  pub mempool : t .kept .mempool ≡ d .mempool
-  pub stats : t .kept .stats ≡ d .stats
-  pub written : t .kept .written ≡ min (writtenIn (blockOf (d .outcome))) (length a / 4)
-  pub prints : Prints (orRefused (listed wRemoved (idsTo 4 a (t .kept .written))) (blockOf (d .outcome))) 0 o₀ o (t .len)
+  pub written : t .kept .written ≡ min (writtenIn n) (length a / 4)
+  pub prints : Prints (text (idsTo 4 a (t .kept .written))) 0 o₀ o (t .len)
 
 pub record After (e b k p a o₀ o : List ℕ) (t : Told) (m : Line) : Type 0 where
   pub holds : Holds e b k p a (t .kept)

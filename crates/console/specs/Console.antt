@@ -52,12 +52,12 @@ use Rattle.console.specs.declared.calls.Call.{Call}
 use Rattle.console.specs.declared.calls.Call.the-variants.{Start, Alter, Ask, Unreadable}
 use Rattle.console.specs.declared.calls.Change.{Change}
 use Rattle.console.specs.declared.calls.Change.the-variants.{Submit, Return, Block, Invalidate, Open, Next, Answer}
-use Rattle.console.specs.Calls.{wordsOf, lacksPool}
 use Rattle.console.specs.declared.calls.Query.{Query}
 use Rattle.console.specs.declared.calls.Query.the-variants.{Listing as Lists, Len, Contains, Spending, Fee, Wait, Histogram, Rebroadcast, Charges, Written}
 use Rattle.forms.specs.Nums.{numeral, digitByte}
 use Rattle.replies.specs.Replies.{numbered, named, listed, replacedText, pooledText, rowOf, spenderText, Pair, pairText, chargesText, binsText}
 use Rattle.console.specs.declared.Kept.{Kept}
+use Rattle.console.specs.Calls.{wordsOf, lacksPool}
 
 -- ---- texts
 
@@ -201,6 +201,10 @@ passText (number n) = []
 passText (said b) = []
 passText (entry k w b) = []
 passText none = []
+
+-- .. a block whose call removed the ids ks
+abbrev pub removedText : Outcome → List ℕ → List ℕ
+removedText o ks = orRefused (listed wRemoved ks) o
 
 -- a query's answer
 abbrev yesNo : Bool → List ℕ
@@ -397,7 +401,7 @@ module _ (e b k p a : List ℕ) (h : Kept) where
   unfoldable pub appliedLine : BlockResult → Line
   appliedLine s =
       record {
-        text = orRefused (listed wRemoved (s .result .written)) (s .result .outcome);
+        text = removedText (s .result .outcome) (s .result .written);
         ready = true;
         config = h .mempool .config;
         pass = passOf (h .mempool .pass);
@@ -470,9 +474,9 @@ module _ (e b k p a : List ℕ) (h : Kept) where
 -- ---- on the edges of docs/FORMS.md: `(removed a4 a1)`, none removed, and a refused block; `(fee 4000)`; `(bins (0 0) (1 4096))`; `(candidate a5)`, `(ended 600)`, an
 -- unanswered candidate's `(verdict needed)`
 
-text-edges : (orRefused (listed wRemoved (164 ∷ 161 ∷ [])) (wrote 2) ≡ 40 ∷ 114 ∷ 101 ∷ 109 ∷ 111 ∷ 118 ∷ 101 ∷ 100 ∷ 32 ∷ 97 ∷ 52 ∷ 32 ∷ 97 ∷ 49 ∷ 41 ∷ [])
-    × (orRefused (listed wRemoved []) (wrote 0) ≡ 40 ∷ 114 ∷ 101 ∷ 109 ∷ 111 ∷ 118 ∷ 101 ∷ 100 ∷ 41 ∷ [])
-    × (orRefused (listed wRemoved []) (refused 20 0) ≡ 40 ∷ 114 ∷ 101 ∷ 102 ∷ 117 ∷ 115 ∷ 101 ∷ 100 ∷ 32 ∷ 50 ∷ 48 ∷ 41 ∷ [])
+text-edges : (removedText (wrote 2) (164 ∷ 161 ∷ []) ≡ 40 ∷ 114 ∷ 101 ∷ 109 ∷ 111 ∷ 118 ∷ 101 ∷ 100 ∷ 32 ∷ 97 ∷ 52 ∷ 32 ∷ 97 ∷ 49 ∷ 41 ∷ [])
+    × (removedText (wrote 0) [] ≡ 40 ∷ 114 ∷ 101 ∷ 109 ∷ 111 ∷ 118 ∷ 101 ∷ 100 ∷ 41 ∷ [])
+    × (removedText (refused 20 0) [] ≡ 40 ∷ 114 ∷ 101 ∷ 102 ∷ 117 ∷ 115 ∷ 101 ∷ 100 ∷ 32 ∷ 50 ∷ 48 ∷ 41 ∷ [])
     × (numberText wFee (number 4000) ≡ 40 ∷ 102 ∷ 101 ∷ 101 ∷ 32 ∷ 52 ∷ 48 ∷ 48 ∷ 48 ∷ 41 ∷ [])
     × (histogramText (fees.histogram (wrote 2) (bin 0 0 ∷ bin 1 4096 ∷ [])) ≡ 40 ∷ 98 ∷ 105 ∷ 110 ∷ 115 ∷ 32 ∷ 40 ∷ 48 ∷ 32 ∷ 48 ∷ 41 ∷ 32 ∷ 40 ∷ 49 ∷ 32 ∷ 52 ∷ 48 ∷ 57 ∷ 54 ∷ 41 ∷ 41 ∷ [])
     × (passText (candidate 165) ≡ 40 ∷ 99 ∷ 97 ∷ 110 ∷ 100 ∷ 105 ∷ 100 ∷ 97 ∷ 116 ∷ 101 ∷ 32 ∷ 97 ∷ 53 ∷ 41 ∷ [])
@@ -480,3 +484,8 @@ text-edges : (orRefused (listed wRemoved (164 ∷ 161 ∷ [])) (wrote 2) ≡ 40 
     × (passText needed ≡ 40 ∷ 118 ∷ 101 ∷ 114 ∷ 100 ∷ 105 ∷ 99 ∷ 116 ∷ 32 ∷ 110 ∷ 101 ∷ 101 ∷ 100 ∷ 101 ∷ 100 ∷ 41 ∷ [])
 unfolding orRefused numberText passText histogramText refusedText listed named numbered binsText pairText numeral digitByte
 text-edges = (refl, refl, refl, refl, refl, refl, refl, refl)
+
+-- "more than 511 bins are refused with 2", with a buffer of 1,024 words
+bins-edges : (histogramOf [] (empty noConfig) 1024 0 511 600 .outcome ≡ wrote 512) × (histogramOf [] (empty noConfig) 1024 0 512 600 .outcome ≡ refused 2 0)
+unfolding histogramOf entriesRoom empty
+bins-edges = (refl, refl)

@@ -21,7 +21,7 @@ use Rattle.pool_types.specs.declared.Verdict.the-variants.{Valid, Invalid, Abse
 use Rattle.pool_types.specs.declared.StartOutcome.the-variants.{Ready, NotStarted}
 use Rattle.pool_types.specs.declared.ListOutcome.{ListOutcome}
 use Rattle.pool_types.specs.declared.ListOutcome.the-variants.{Listed, NotListed}
-use Rattle.pool_types.specs.Outcomes.{Outcome, refused, done, wrote, processedOf, listedOf}
+use Rattle.pool_types.specs.Outcomes.{Outcome, refused, done, wrote, processedOf, blockOf, listedOf}
 use Rattle.entries.specs.Entries.{Entry}
 use Rattle.boxes.specs.Flat.{countOf, idsTo, idsOf, ids}
 use Rattle.pool.specs.Pool.{Tables, removeAll, evicted, fitsTest}
@@ -57,10 +57,10 @@ use Rattle.console.specs.declared.calls.Change.{Change}
 use Rattle.console.specs.declared.calls.Query.{Query}
 use Rattle.console.specs.declared.calls.Words.{Words}
 use Rattle.console.specs.Calls.{lacksPool, wordsOf}
-use Rattle.console.specs.Console.{Line, wReady, wNoPool, wIds, refusedText, sentText, unreadText, txText, orRefused, passText, writtenIn, configOf, noConfig, nothing, processedLine, appliedLine, doneLine, passLine, altered, startedLine, same, asked, called, lineOf}
+use Rattle.console.specs.Console.{Line, wReady, wNoPool, wIds, refusedText, sentText, unreadText, txText, orRefused, removedText, passText, writtenIn, configOf, noConfig, nothing, processedLine, appliedLine, doneLine, passLine, altered, startedLine, same, asked, called, lineOf}
 use Rattle.console.specs.Texts.{prints-as, list-count, list-text, list-refused}
 use Rattle.replies.specs.Replies.{listed}
-use Rattle.console.specs.After.{Holds, After, ToldOf, ToldBlock}
+use Rattle.console.specs.After.{Holds, After, ToldOf}
 use Rattle.console.specs.declared.Kept.{Kept}
 use Rattle.console.specs.declared.Told.{Told}
 
@@ -172,28 +172,33 @@ take-min n m l q = rw q (go (native.Mathlib.Decide.decLe n (length l)))
     go (yes p) = let z : min n (length l) ≡ n = omega arith in rw z
     go (no p) = let z : min n (length l) ≡ length l = omega (arith, p) in rw z (take-all (length l) l (omega arith) ∙ sym (take-all n l (omega (arith, p))))
 
+-- .. and is what is held of them then
+module _ (a a' ks : List ℕ) (n : Outcome) (y : writtenIn n ≡ length ks) (d : Wrote a a' 0 ks) {m : Mempool} {s : FeeStats} {text : List ℕ → List ℕ} {o₀ o : List ℕ} (t : Told) (w : ToldOf a' m s n text o₀ o t) where
+  count-is : t .kept .written ≡ min (length ks) (countOf 4 a)
+  count-is = w .written ∙ rw (y, d .kept)
+
+  held : idsTo 4 a' (t .kept .written) ≡ take (countOf 4 a) ks
+  held = rw count-is (shown a a' ks (length ks) d refl)
+
 -- ---- a submission's line
 
 module _ (e b k p a e' b' k' p' a' : List ℕ) (h : Kept) (r : Processed) (s : Result) (d : Post (h .mempool) r e' b' k' p' a a' s) (y : writtenIn (s .outcome) ≡ length (s .written))
-    (x : ℕ) (o₀ o : List ℕ) (t : Told) (w : ToldOf a' (h .stats) r x o₀ o t) where
-  count-is : t .kept .written ≡ min (length (s .written)) (countOf 4 a)
-  count-is = w .written ∙ rw (d .outcome, y, d .wrote .kept)
-
-  held : idsTo 4 a' (t .kept .written) ≡ take (countOf 4 a) (s .written)
-  held = rw count-is (shown a a' (s .written) (length (s .written)) (d .wrote) refl)
+    (x : ℕ) (o₀ o : List ℕ) (t : Told) (w : ToldOf a' (r .mempool) (h .stats) (processedOf (r .outcome)) (txText (processedOf (r .outcome)) x) o₀ o t) where
+  held-processed : idsTo 4 a' (t .kept .written) ≡ take (countOf 4 a) (s .written)
+  held-processed = held a a' (s .written) (processedOf (r .outcome)) (ap writtenIn (d .outcome) ∙ y) (d .wrote) t w
 
   pub after-processed : After e' b' k' p' a' o₀ o t (processedLine e b k p a h s x)
   unfolding processedLine
   after-processed =
       record {
         holds = record { fits = rw (w .mempool) (d .fits); written = omega (arith, w .written) };
-        prints = prints-as (rw (d .outcome, held)) (w .prints);
+        prints = prints-as (rw (d .outcome, held-processed)) (w .prints);
         ready = w .ready;
         config = rw (w .mempool) (d .config);
         pass = rw (w .mempool) (ap passOf (d .pass));
         world = rw (w .mempool) (d .world);
         stats = w .stats;
-        written = held;
+        written = held-processed;
       }
 
 pub cut-is : (r a : ℕ) (l : List ℕ) → r ≡ min a (length l) → r ≡ length (take r l)
@@ -217,18 +222,17 @@ says-applied st w s room time txs ins = go (eqb (blockRefusal st room txs ins) 0
 
 -- each id that it wrote has its place, so all are held
 module _ (e b k p a e' b' k' a' : List ℕ) (h : Kept) (r : Applied) (s : BlockResult) (d : BlockPost (h .mempool) r e' b' k' p a a' s)
-    (y : writtenIn (s .result .outcome) ≡ length (s .result .written)) (o₀ o : List ℕ) (t : Told) (w : ToldBlock a' r o₀ o t) where
-  count-removed : t .kept .written ≡ length (s .result .written)
-  count-removed = let z : t .kept .written ≡ min (length (s .result .written)) (length a / 4) = w .written ∙ rw (d .outcome, y, d .wrote .kept) in omega (arith, z, d .placed)
-
+    (y : writtenIn (s .result .outcome) ≡ length (s .result .written)) (o₀ o : List ℕ) (t : Told) (w : ToldOf a' (r .mempool) (r .stats) (blockOf (r .outcome)) (removedText (blockOf (r .outcome))) o₀ o t) where
   held-removed : idsTo 4 a' (t .kept .written) ≡ s .result .written
-  held-removed = rw count-removed (shown-whole a a' (s .result .written) (d .wrote) (d .placed))
+  held-removed =
+      held a a' (s .result .written) (blockOf (r .outcome)) (ap writtenIn (d .outcome) ∙ y) (d .wrote) t w
+      ∙ take-all (countOf 4 a) (s .result .written) (d .placed)
 
   pub after-applied : After e' b' k' p a' o₀ o t (appliedLine e b k p a h s)
   unfolding appliedLine
   after-applied =
       record {
-        holds = record { fits = rw (w .mempool) (d .fits); written = omega (arith, count-removed, d .placed, d .wrote .kept) };
+        holds = record { fits = rw (w .mempool) (d .fits); written = omega (arith, w .written) };
         prints = prints-as (rw (d .outcome, held-removed)) (w .prints);
         ready = w .ready;
         config = rw (w .mempool) (d .config);

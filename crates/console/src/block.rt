@@ -3,11 +3,12 @@ use crate::Kept;
 use crate::Told;
 use crate::answer::refused;
 use crate::answer::smaller;
-use blocks::Applied;
 use blocks::apply_block_at;
 use lines::read::BlockForm;
 use pool_types::BlockOutcome;
+use pool_types::Mempool;
 use replies::with_ids;
+use stats::FeeStats;
 ghost use mathlib.Core.Path.{_≡_};
 ghost use Prim.Native.Nat.{ℕ, _/_, _≤_};
 ghost use mathlib.Core.List.{List};
@@ -15,10 +16,9 @@ ghost use lib.ListN.{length};
 ghost use Rattle.pool_types.specs.Outcomes.{blockOf};
 ghost use Rattle.boxes.specs.Flat.{countOf, idsTo};
 ghost use Rattle.forms.specs.Nums.{Prints};
-ghost use Rattle.replies.specs.Replies.{listed};
 ghost use Rattle.console.specs.declared.calls.Change.the-variants.{Block};
-ghost use Rattle.console.specs.Console.{wRemoved, orRefused, writtenIn, altered};
-ghost use Rattle.console.specs.After.{Holds, After, ToldBlock};
+ghost use Rattle.console.specs.Console.{removedText, writtenIn, altered};
+ghost use Rattle.console.specs.After.{Holds, After, ToldOf};
 
 // The ids that a block says it wrote.
 fn removed_of(outcome: BlockOutcome) -> usize
@@ -34,7 +34,7 @@ fn removed_of(outcome: BlockOutcome) -> usize
 fn tell_removed(out: &mut [u8], answer: &[u64], n: usize, outcome: BlockOutcome) -> usize
     requires { ⌜ (n ≤ countOf 4 (now answer)) × (length (now answer) ≤ 1024) ⌝ }
     requires { ⌜ 32768 ≤ length (now out) ⌝ }
-    ensures { λ r. ⌜ Prints (orRefused (listed wRemoved (idsTo 4 (now (answer .entry)) n)) (blockOf outcome)) 0 (now (out .entry)) (now (out .exit)) r ⌝ }
+    ensures { λ r. ⌜ Prints (removedText (blockOf outcome) (idsTo 4 (now (answer .entry)) n)) 0 (now (out .entry)) (now (out .exit)) r ⌝ }
 {
     match outcome {
         BlockOutcome::Removed(_) => with_ids(out, b"(removed", answer, n),
@@ -43,13 +43,16 @@ fn tell_removed(out: &mut [u8], answer: &[u64], n: usize, outcome: BlockOutcome)
 }
 
 // What is held after a block, and its answer.
-fn told(answer: &[u64], done: Applied, out: &mut [u8]) -> Told
+fn told(
+    answer: &[u64],
+    mempool: Mempool,
+    stats: FeeStats,
+    outcome: BlockOutcome,
+    out: &mut [u8],
+) -> Told
     requires { ⌜ (length (now answer) ≤ 1024) × (32768 ≤ length (now out)) ⌝ }
-    ensures { λ r. ⌜ ToldBlock (now (answer .entry)) done (now (out .entry)) (now (out .exit)) r ⌝ }
+    ensures { λ r. ⌜ ToldOf (now (answer .entry)) mempool stats (blockOf outcome) (removedText (blockOf outcome)) (now (out .entry)) (now (out .exit)) r ⌝ }
 {
-    let outcome = done.outcome;
-    let mempool = done.mempool;
-    let stats = done.stats;
     let written = smaller(removed_of(outcome), answer.len() / 4);
     let len = tell_removed(out, answer, written, outcome);
     Told {
@@ -93,5 +96,8 @@ pub fn on_block(
         transactions,
         inputs,
     );
-    told(&answer[..], done, out)
+    let after = done.mempool;
+    let recorded = done.stats;
+    let outcome = done.outcome;
+    told(&answer[..], after, recorded, outcome, out)
 }

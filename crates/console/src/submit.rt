@@ -99,7 +99,7 @@ fn tell_processed(
 // What is held after a submission, and its answer.
 fn told(answer: &[u64], stats: FeeStats, done: Processed, id: Id, out: &mut [u8]) -> Told
     requires { ⌜ (length (now answer) ≤ 1024) × (32768 ≤ length (now out)) ⌝ }
-    ensures { λ r. ⌜ ToldOf (now (answer .entry)) stats done (idOf id) (now (out .entry)) (now (out .exit)) r ⌝ }
+    ensures { λ r. ⌜ ToldOf (now (answer .entry)) (done .mempool) stats (processedOf (done .outcome)) (txText (processedOf (done .outcome)) (idOf id)) (now (out .entry)) (now (out .exit)) r ⌝ }
 {
     let outcome = done.outcome;
     let mempool = done.mempool;

@@ -15,7 +15,7 @@ apply-block-at-requires c κs = search needs
 
 -- src/block.rt:96:5
 told-requires : tie.Need-told-requires
-told-requires c κs = (omega (arith, c .before .before .before .before .before .before .before .before .before .before .apply-block-at .kept, c .before .before .before .before .before .before .before .before .before .before .before .before .before .before .before .before .before .before .before .before .before .before .before .before .pre), omega (arith, c .before .before .before .before .before .before .before .before .before .before .before .before .before .before .before .before .before .before .before .before .before .before .before .before .pre))
+told-requires c κs = (omega (arith, c .before .before .before .before .before .before .before .before .before .before .before .before .apply-block-at .kept, c .before .before .before .before .before .before .before .before .before .before .before .before .before .before .before .before .before .before .before .before .before .before .before .before .before .before .pre), omega (arith, c .before .before .before .before .before .before .before .before .before .before .before .before .before .before .before .before .before .before .before .before .before .before .before .before .before .before .pre))
 
 -- src/block.rt:67:1
 same-length : tie.Need-same-length
@@ -40,7 +40,7 @@ same-length-5 c = search needs
 -- src/block.rt:67:1
 returns : tie.Need-returns
 unfolding altered
-returns c p y = after-applied _ _ _ _ _ _ _ _ _ _ _ _ (c .before .before .before .before .before .before .before .before .before .before .before .before .before .apply-block-at .ensures .0 p (y .fits)) (says-applied _ _ _ _ _ _ _) _ _ _ (c .before .before .told .ensures)
+returns c p y = after-applied _ _ _ _ _ _ _ _ _ _ _ _ (c .before .before .before .before .before .before .before .before .before .before .before .before .before .before .before .apply-block-at .ensures .0 p (y .fits)) (says-applied _ _ _ _ _ _ _) _ _ _ (c .before .before .told .ensures)
 
 pub on-block-spec : {M : Type 1} → statement M
 on-block-spec =
