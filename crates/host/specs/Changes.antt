@@ -5,9 +5,7 @@ use mathlib.Core.Path.{_≡_, refl, sym, ap, _∙_}
 use mathlib.Core.Bool.{true, false}
 use mathlib.Core.List.{List, [], _∷_}
 use native.Mathlib.Omega.{arith}
-use lib.Dec.{eqb}
-use lib.ListN.{length, getD, drop}
-use Rattle.words.specs.Lists.{pick}
+use lib.ListN.{length, getD}
 use Rattle.words.specs.Ids.{wordsAt}
 use Rattle.pool_types.specs.declared.Mempool.{Mempool}
 use Rattle.pool_types.specs.declared.ReturnOutcome.{ReturnOutcome}
@@ -15,11 +13,11 @@ use Rattle.pool_types.specs.declared.ReturnOutcome.the-variants.{Returned, NotR
 use Rattle.pool_types.specs.declared.InvalidateOutcome.{InvalidateOutcome}
 use Rattle.pool_types.specs.declared.InvalidateOutcome.the-variants.{Invalidated, NotInvalidated}
 use Rattle.pool_types.specs.declared.BlockOutcome.{BlockOutcome}
-use Rattle.pool_types.specs.declared.Source.the-variants.{Local, Peer}
+use Rattle.pool_types.specs.declared.Source.the-variants.{Peer}
 use Rattle.pool_types.specs.Outcomes.{Outcome, returnedOf, invalidatedOf, blockOf}
 use Rattle.stats.specs.declared.FeeStats.{FeeStats}
 use Rattle.entries.specs.Layout.{entriesRoom, costOf}
-use Rattle.entries.specs.declared.fields.ValidationCost.the-variants.{Unmeasured, Measured}
+use Rattle.entries.specs.declared.fields.ValidationCost.the-variants.{Unmeasured}
 use Rattle.boxes.specs.Layout.{boxesRoom}
 use Rattle.pool.specs.Pool.{fitsTest}
 use Rattle.store.specs.World.{worldOf}

@@ -15,7 +15,6 @@ use blocks::apply_block_at;
 use returns::invalidate;
 use returns::return_to_pool;
 use words::ids::Id;
-ghost use mathlib.Core.Path.{_≡_};
 ghost use Prim.Native.Nat.{_≤_};
 ghost use lib.ListN.{length};
 ghost use Rattle.words.specs.Ids.{idOf};
