@@ -1,15 +1,19 @@
 // poolrun: reads one bracket form a line, from standard input or from the file that its first argument names, and prints one answer a line
 // (docs/FORMS.md). What a line comes to is crate console's; here is the loop that cuts the input into lines.
 use console::Kept;
+use console::Told;
 use console::calls::call_of;
 use console::start::fresh;
 use console::tell;
 use lines::read::read_form;
 use words::sums::saturating_add;
 ghost use mathlib.Core.Path.{_≡_};
-ghost use Prim.Native.Nat.{min};
+ghost use Prim.Native.Nat.{_<_, min};
+ghost use lib.ListN.{length, set};
 ghost use Rattle.console.specs.After.{Holds};
-ghost use Rattle.poolrun.specs.Poolrun.{Running};
+ghost use Rattle.io.specs.Counts.{Counts};
+ghost use Rattle.poolrun.specs.Input.{stateOf, wordsOf, atStart};
+ghost use Rattle.poolrun.specs.Poolrun.{Sized, Running, Room, Adds, Tells, Whole, Ends, Steps, Feeds, Finishes, Closed, Turns, Serves};
 
 // What goes from byte to byte: what is held of the pool, how much of a line was read, and how many lines there were.
 struct Progress {
@@ -22,24 +26,25 @@ struct Progress {
 
 // A byte of a line. Of a line that is too long one byte more than allowed is kept, so that it is seen.
 fn add_byte(line: &mut [u8], p: Progress, b: u8) -> Progress
-    ensures { λ r. ⌜ r .kept ≡ p .kept ⌝ }
+    requires { ⌜ length (now line) ≡ 4097 ⌝ }
+    ensures { λ r. ⌜ Adds (now (line .entry)) p b (now (line .exit)) r ⌝ }
 {
-    let kept = p.kept;
     let len = p.len;
-    if len < line.len() {
-        line[len] = b;
-        return Progress {
-            kept,
-            len: len + 1,
-            number: p.number,
-            over: false,
-        };
+    if len >= line.len() {
+        return p;
     }
-    p
+    line[len] = b;
+    let kept = p.kept;
+    Progress {
+        kept,
+        len: len + 1,
+        number: p.number,
+        over: p.over,
+    }
 }
 
-// A line is answered, and the answer is written at once.
-fn answer_line(
+// Makes the call that the bytes of line `number` ask for. The answer's text stands at the start of `out`.
+fn tell_line(
     line: &[u8],
     entries: &mut [u64],
     boxes: &mut [u64],
@@ -50,16 +55,16 @@ fn answer_line(
     first: &mut [u64],
     second: &mut [u64],
     out: &mut [u8],
-    p: Progress,
-) -> Progress
-    requires { ⌜ Running (now entries) (now boxes) (now cache) (now peers) (now answer) (now listing) (now out) (p .kept) ⌝ }
-    ensures { λ r. ⌜ Holds (now (entries .exit)) (now (boxes .exit)) (now (cache .exit)) (now (peers .exit)) (now (answer .exit)) (r .kept) ⌝ }
+    kept: Kept,
+    number: u64,
+) -> Told
+    requires { ⌜ Holds (now entries) (now boxes) (now cache) (now peers) (now answer) kept ⌝ }
+    requires { ⌜ Room (now answer) (now listing) (now first) (now second) (now out) ⌝ }
+    ensures { λ r. ⌜ Tells (now (line .entry)) number (wordsOf (now (entries .entry)) (now (boxes .entry)) (now (cache .entry)) (now (peers .entry)) (now (answer .entry))) kept (wordsOf (now (entries .exit)) (now (boxes .exit)) (now (cache .exit)) (now (peers .exit)) (now (answer .exit))) (now (out .entry)) (now (out .exit)) r ⌝ }
 {
-    let number = saturating_add(p.number, 1);
-    let kept = p.kept;
     let form = read_form(line, first, second);
     let call = call_of(form);
-    let told = tell(
+    tell(
         entries,
         boxes,
         cache,
@@ -72,17 +77,25 @@ fn answer_line(
         number,
         call,
         out,
-    );
-    let after = told.kept;
-    let len = told.len;
-    put_newline(out, len);
-    write_front(&out[..], saturating_add(len as u64, 1) as usize);
-    Progress {
-        kept: after,
-        len: 0,
-        number,
-        over: false,
-    }
+    )
+}
+
+// Hands a whole line to standard output. What arrives there no contract can say: `write_all` stops where the output takes no more, and the program
+// goes on.
+fn hand_over(line: &[u8])
+    requires { ⌜ Whole (now line) ⌝ }
+{
+    io::write_all(1, line);
+}
+
+// The first `len` bytes, and a newline behind them, are handed to standard output.
+fn write_line(out: &mut [u8], len: usize)
+    requires { ⌜ len < length (now out) ⌝ }
+    ensures { λ _. ⌜ now (out .exit) ≡ set (now (out .entry)) len 10 ⌝ }
+{
+    out[len] = 10;
+    let n = len + 1;
+    hand_over(&out[..n]);
 }
 
 fn smaller(a: usize, b: usize) -> usize
@@ -91,7 +104,7 @@ fn smaller(a: usize, b: usize) -> usize
     if a < b { a } else { b }
 }
 
-// A line is whole: it stands at the front of `line`.
+// A line is whole: it stands at the front of `line`. It is answered, and the answer is written at once.
 fn end_line(
     line: &[u8],
     entries: &mut [u64],
@@ -105,11 +118,15 @@ fn end_line(
     out: &mut [u8],
     p: Progress,
 ) -> Progress
-    requires { ⌜ Running (now entries) (now boxes) (now cache) (now peers) (now answer) (now listing) (now out) (p .kept) ⌝ }
-    ensures { λ r. ⌜ Holds (now (entries .exit)) (now (boxes .exit)) (now (cache .exit)) (now (peers .exit)) (now (answer .exit)) (r .kept) ⌝ }
+    requires { ⌜ Running (now line) (now entries) (now boxes) (now cache) (now peers) (now answer) (now listing) (now first) (now second) (now out) (p .kept) ⌝ }
+    ensures { λ r. ⌜ Ends (stateOf (now (line .entry)) (now (entries .entry)) (now (boxes .entry)) (now (cache .entry)) (now (peers .entry)) (now (answer .entry)) p) (stateOf (now (line .entry)) (now (entries .exit)) (now (boxes .exit)) (now (cache .exit)) (now (peers .exit)) (now (answer .exit)) r) (now (out .exit)) ⌝ }
 {
+    let number = saturating_add(p.number, 1);
     let n = smaller(p.len, line.len());
-    answer_line(
+    // the last place is the newline's
+    let room = 32768;
+    let kept = p.kept;
+    let told = tell_line(
         &line[..n],
         entries,
         boxes,
@@ -119,22 +136,17 @@ fn end_line(
         listing,
         first,
         second,
-        out,
-        p,
-    )
-}
-
-// A newline behind the first `len` bytes.
-fn put_newline(out: &mut [u8], len: usize) {
-    if len < out.len() {
-        out[len] = 10;
-    }
-}
-
-// Writes the first `n` bytes.
-fn write_front(out: &[u8], n: usize) {
-    if n <= out.len() {
-        io::write_all(1, &out[..n]);
+        &mut out[..room],
+        kept,
+        number,
+    );
+    let after = told.kept;
+    write_line(out, told.len);
+    Progress {
+        kept: after,
+        len: 0,
+        number,
+        over: p.over,
     }
 }
 
@@ -153,8 +165,8 @@ fn step(
     out: &mut [u8],
     p: Progress,
 ) -> Progress
-    requires { ⌜ Running (now entries) (now boxes) (now cache) (now peers) (now answer) (now listing) (now out) (p .kept) ⌝ }
-    ensures { λ r. ⌜ Holds (now (entries .exit)) (now (boxes .exit)) (now (cache .exit)) (now (peers .exit)) (now (answer .exit)) (r .kept) ⌝ }
+    requires { ⌜ Running (now line) (now entries) (now boxes) (now cache) (now peers) (now answer) (now listing) (now first) (now second) (now out) (p .kept) ⌝ }
+    ensures { λ r. ⌜ Steps b (stateOf (now (line .entry)) (now (entries .entry)) (now (boxes .entry)) (now (cache .entry)) (now (peers .entry)) (now (answer .entry)) p) (stateOf (now (line .exit)) (now (entries .exit)) (now (boxes .exit)) (now (cache .exit)) (now (peers .exit)) (now (answer .exit)) r) (now (out .exit)) ⌝ }
 {
     if b != 10 {
         return add_byte(line, p, b);
@@ -189,8 +201,8 @@ fn feed(
     out: &mut [u8],
     begun: Progress,
 ) -> Progress
-    requires { ⌜ Running (now entries) (now boxes) (now cache) (now peers) (now answer) (now listing) (now out) (begun .kept) ⌝ }
-    ensures { λ r. ⌜ Holds (now (entries .exit)) (now (boxes .exit)) (now (cache .exit)) (now (peers .exit)) (now (answer .exit)) (r .kept) ⌝ }
+    requires { ⌜ Running (now line) (now entries) (now boxes) (now cache) (now peers) (now answer) (now listing) (now first) (now second) (now out) (begun .kept) ⌝ }
+    ensures { λ r. ⌜ Feeds (now (input .entry)) (stateOf (now (line .entry)) (now (entries .entry)) (now (boxes .entry)) (now (cache .entry)) (now (peers .entry)) (now (answer .entry)) begun) (stateOf (now (line .exit)) (now (entries .exit)) (now (boxes .exit)) (now (cache .exit)) (now (peers .exit)) (now (answer .exit)) r) ⌝ }
 {
     let mut p = begun;
     let mut i = 0;
@@ -214,59 +226,19 @@ fn feed(
     p
 }
 
-// What one read brings, which may be nothing: then the last line, which may lack its newline, is answered.
-fn turn(
-    fd: i32,
-    input: &mut [u8],
-    line: &mut [u8],
-    entries: &mut [u64],
-    boxes: &mut [u64],
-    cache: &mut [u64],
-    peers: &mut [u64],
-    answer: &mut [u64],
-    listing: &mut [u64],
-    first: &mut [u64],
-    second: &mut [u64],
-    out: &mut [u8],
-    p: Progress,
-) -> Progress
-    requires { ⌜ Running (now entries) (now boxes) (now cache) (now peers) (now answer) (now listing) (now out) (p .kept) ⌝ }
-    ensures { λ r. ⌜ Holds (now (entries .exit)) (now (boxes .exit)) (now (cache .exit)) (now (peers .exit)) (now (answer .exit)) (r .kept) ⌝ }
+fn ended(p: Progress) -> Progress
+    ensures { λ r. ⌜ Closed p r ⌝ }
 {
-    let got = libc::read(fd, input);
-    let n = io::count(got, &input[..]);
-    if n == 0 {
-        return finish(
-            &line[..],
-            entries,
-            boxes,
-            cache,
-            peers,
-            answer,
-            listing,
-            first,
-            second,
-            out,
-            p,
-        );
+    let kept = p.kept;
+    Progress {
+        kept,
+        len: p.len,
+        number: p.number,
+        over: true,
     }
-    feed(
-        &input[..n],
-        line,
-        entries,
-        boxes,
-        cache,
-        peers,
-        answer,
-        listing,
-        first,
-        second,
-        out,
-        p,
-    )
 }
 
-// The input has ended.
+// The input has ended. The last line, which may lack its newline, is answered.
 fn finish(
     line: &[u8],
     entries: &mut [u64],
@@ -280,8 +252,8 @@ fn finish(
     out: &mut [u8],
     p: Progress,
 ) -> Progress
-    requires { ⌜ Running (now entries) (now boxes) (now cache) (now peers) (now answer) (now listing) (now out) (p .kept) ⌝ }
-    ensures { λ r. ⌜ Holds (now (entries .exit)) (now (boxes .exit)) (now (cache .exit)) (now (peers .exit)) (now (answer .exit)) (r .kept) ⌝ }
+    requires { ⌜ Running (now line) (now entries) (now boxes) (now cache) (now peers) (now answer) (now listing) (now first) (now second) (now out) (p .kept) ⌝ }
+    ensures { λ r. ⌜ Finishes (stateOf (now (line .entry)) (now (entries .entry)) (now (boxes .entry)) (now (cache .entry)) (now (peers .entry)) (now (answer .entry)) p) (stateOf (now (line .entry)) (now (entries .exit)) (now (boxes .exit)) (now (cache .exit)) (now (peers .exit)) (now (answer .exit)) r) (now (out .exit)) ⌝ }
 {
     if p.len == 0 {
         return ended(p);
@@ -302,16 +274,61 @@ fn finish(
     ended(last)
 }
 
-fn ended(p: Progress) -> Progress
-    ensures { λ r. ⌜ r .kept ≡ p .kept ⌝ }
+// What one read brought: nothing at the end of the input.
+fn turn(
+    input: &[u8],
+    line: &mut [u8],
+    entries: &mut [u64],
+    boxes: &mut [u64],
+    cache: &mut [u64],
+    peers: &mut [u64],
+    answer: &mut [u64],
+    listing: &mut [u64],
+    first: &mut [u64],
+    second: &mut [u64],
+    out: &mut [u8],
+    p: Progress,
+) -> Progress
+    requires { ⌜ Running (now line) (now entries) (now boxes) (now cache) (now peers) (now answer) (now listing) (now first) (now second) (now out) (p .kept) ⌝ }
+    ensures { λ r. ⌜ Turns (now (input .entry)) (stateOf (now (line .entry)) (now (entries .entry)) (now (boxes .entry)) (now (cache .entry)) (now (peers .entry)) (now (answer .entry)) p) (stateOf (now (line .exit)) (now (entries .exit)) (now (boxes .exit)) (now (cache .exit)) (now (peers .exit)) (now (answer .exit)) r) ⌝ }
 {
-    let kept = p.kept;
-    Progress {
-        kept,
-        len: p.len,
-        number: p.number,
-        over: true,
+    if input.len() == 0 {
+        return finish(
+            &line[..],
+            entries,
+            boxes,
+            cache,
+            peers,
+            answer,
+            listing,
+            first,
+            second,
+            out,
+            p,
+        );
     }
+    feed(
+        input,
+        line,
+        entries,
+        boxes,
+        cache,
+        peers,
+        answer,
+        listing,
+        first,
+        second,
+        out,
+        p,
+    )
+}
+
+// One read, to the front of `input`. Which bytes it brings no contract can say; a read that fails brings none.
+fn read_some(fd: i32, input: &mut [u8]) -> usize
+    ensures { λ r. ⌜ Counts r (now (input .exit)) ⌝ }
+{
+    let got = libc::read(fd, input);
+    io::count(got, &input[..])
 }
 
 // All that a file holds. Memory does not grow with it.
@@ -328,17 +345,22 @@ fn serve(
     first: &mut [u64],
     second: &mut [u64],
     out: &mut [u8],
-    begun: Progress,
-)
-    requires { ⌜ Running (now entries) (now boxes) (now cache) (now peers) (now answer) (now listing) (now out) (begun .kept) ⌝ }
+) -> Progress
+    requires { ⌜ Sized (now line) (now entries) (now boxes) (now cache) (now peers) (now answer) (now listing) (now first) (now second) (now out) ⌝ }
+    ensures { λ r. ⌜ Serves (atStart (now (entries .entry)) (now (boxes .entry)) (now (cache .entry)) (now (peers .entry)) (now (answer .entry))) (stateOf (now (line .exit)) (now (entries .exit)) (now (boxes .exit)) (now (cache .exit)) (now (peers .exit)) (now (answer .exit)) r) ⌝ }
 {
-    let mut p = begun;
+    let mut p = Progress {
+        kept: fresh(),
+        len: 0,
+        number: 0,
+        over: false,
+    };
     // a proved loop has to end, and nothing says that an input does
     let mut turns = u64::MAX;
     while turns > 0 {
+        let n = read_some(fd, input);
         p = turn(
-            fd,
-            input,
+            &input[..n],
             line,
             entries,
             boxes,
@@ -352,10 +374,11 @@ fn serve(
             p,
         );
         if p.over {
-            return;
+            return p;
         }
         turns -= 1;
     }
+    p
 }
 
 fn run(fd: i32) {
@@ -367,15 +390,9 @@ fn run(fd: i32) {
     let mut listing = [0u64; 1024];
     let mut first = [0u64; 14336];
     let mut second = [0u64; 14336];
-    let mut out = [0u8; 32768];
+    let mut out = [0u8; 32769];
     let mut input = [0u8; 8192];
     let mut line = [0u8; 4097];
-    let p = Progress {
-        kept: fresh(),
-        len: 0,
-        number: 0,
-        over: false,
-    };
     serve(
         fd,
         &mut input,
@@ -389,7 +406,6 @@ fn run(fd: i32) {
         &mut first,
         &mut second,
         &mut out,
-        p,
     );
 }
 

@@ -1,4 +1,5 @@
-use Rattle.poolrun.specs.Poolrun.{kept-by}
+use Rattle.poolrun.specs.Poolrun.{steps-adds, steps-ends}
+use native.Mathlib.Omega.{arith}
 use borrow.Author.Needs.{needs}
 use Rattle.poolrun.proofs.step.Statement.{statement}
 use Rattle.poolrun.proofs.step.Tie as tie
@@ -9,7 +10,7 @@ use Rattle.poolrun.proofs.end_line.Reads as end-line-reads
 
 -- src/main.rt:148:9
 add-byte-requires : tie.Need-add-byte-requires
-add-byte-requires c κs = search needs
+add-byte-requires c κs = omega arith
 
 -- src/main.rt:148:9
 same-length : tie.Need-same-length
@@ -17,7 +18,7 @@ same-length c = search needs
 
 -- src/main.rt:148:9
 returns : tie.Need-returns
-returns c = kept-by (c .before .before .add-byte .ensures) (c .before .before .before .before .before .before .before .before .before .before .before .before .before .before .before .pre .holds)
+returns c = steps-adds (c .before .before .before .before .before .before .before .before .before .before .before .before .before .before .before .args .line .now) _ (c .before .before .before .before .before .before .before .before .before .before .before .before .before .before .before .args .entries .now) (c .before .before .before .before .before .before .before .before .before .before .before .before .before .before .before .args .boxes .now) (c .before .before .before .before .before .before .before .before .before .before .before .before .before .before .before .args .cache .now) (c .before .before .before .before .before .before .before .before .before .before .before .before .before .before .before .args .peers .now) (c .before .before .before .before .before .before .before .before .before .before .before .before .before .before .before .args .answer .now) (c .before .before .before .before .before .before .before .before .before .before .before .before .before .before .before .args .b) (c .before .before .before .before .before .before .before .before .before .before .before .before .before .before .before .args .p) _ (c .before .before .add-byte .ensures) (c .before .before .before .before .if1 .taken) _
 
 -- src/main.rt:150:5
 end-line-requires : tie.Need-end-line-requires
@@ -65,7 +66,7 @@ same-length-11 c = search needs
 
 -- src/main.rt:130:1
 returns-2 : tie.Need-returns-2
-returns-2 c = search needs
+returns-2 c = steps-ends (c .before .before .before .before .before .before .before .before .before .before .before .before .before .before .before .before .before .before .before .before .before .before .before .before .before .before .before .before .before .before .before .before .before .before .before .before .before .before .before .before .args .b) (omega (arith, c .before .before .before .before .before .before .before .before .before .before .before .before .before .before .before .before .before .before .before .before .before .before .before .before .before .before .before .before .before .if1 .left)) (c .before .before .before .before .before .before .before .before .before .before .before .before .before .before .before .before .before .before .end-line .ensures)
 
 pub step-spec : {M : Type 1} → statement M
 step-spec =
