@@ -64,9 +64,9 @@ pub fn on_open(kept: Kept, time: u64, limit: u64, preheader: u32, out: &mut [u8]
 {
     let mempool = kept.mempool;
     let stats = kept.stats;
-    let done = open(mempool, time, limit, preheader);
-    let after = done.mempool;
-    let outcome = done.outcome;
+    let opened = open(mempool, time, limit, preheader);
+    let after = opened.mempool;
+    let outcome = opened.outcome;
     let len = tell_opened(out, outcome);
     Told {
         kept: Kept {
@@ -86,9 +86,9 @@ pub fn on_next(entries: &[u64], kept: Kept, out: &mut [u8]) -> Told
 {
     let mempool = kept.mempool;
     let stats = kept.stats;
-    let done = next(entries, mempool);
-    let after = done.mempool;
-    let outcome = done.outcome;
+    let offered = next(entries, mempool);
+    let after = offered.mempool;
+    let outcome = offered.outcome;
     let len = tell_offered(out, outcome);
     Told {
         kept: Kept {
@@ -117,9 +117,9 @@ pub fn on_answer(
 {
     let mempool = kept.mempool;
     let stats = kept.stats;
-    let done = answer(entries, boxes, cache, mempool, flags, verdict_of(verdict));
-    let after = done.mempool;
-    let outcome = done.outcome;
+    let answered = answer(entries, boxes, cache, mempool, flags, verdict_of(verdict));
+    let after = answered.mempool;
+    let outcome = answered.outcome;
     let len = tell_answered(out, outcome);
     Told {
         kept: Kept {
