@@ -1,5 +1,5 @@
 -- The state and a submission as the C side holds them: words of 64 bits, in the order of the fields. Each struct of crate pool_types has its own
--- decoding, and every word has a meaning. The words 9 to 13 are what a submission changes, and word 24 is no part of the state: how many ids the
+-- decoding, and every word has a meaning. The words 9 to 13 are what a submission changes, 14 to 23 a pass, and word 24 is no part of the state: how many ids the
 -- last changing call wrote.
 use Prim.Native.Nat.{ℕ, _%_, _≤_, _<_}
 use mathlib.Core.Path.{_≡_, refl, sym, ap, _∙_}

@@ -1,12 +1,14 @@
 // What a call answers the C side: one number for each outcome.
+use pool_types::AnswerOutcome;
 use pool_types::BlockOutcome;
 use pool_types::InvalidateOutcome;
 use pool_types::ListOutcome;
+use pool_types::OpenOutcome;
 use pool_types::ProcessingOutcome;
 use pool_types::ReturnOutcome;
 use pool_types::TestOutcome;
 ghost use mathlib.Core.Path.{_≡_};
-ghost use Rattle.pool_types.specs.Outcomes.{processedOf, returnedOf, invalidatedOf, blockOf, testedOf, listedOf};
+ghost use Rattle.pool_types.specs.Outcomes.{processedOf, returnedOf, invalidatedOf, blockOf, openedOf, answeredOf, testedOf, listedOf};
 ghost use Rattle.host.specs.Codes.{codeOf, writtenOf};
 ghost use Rattle.host.specs.Queries.{queryOf};
 
@@ -69,6 +71,27 @@ pub fn block_written(outcome: BlockOutcome) -> u64
     match outcome {
         BlockOutcome::Removed(n) => n as u64,
         BlockOutcome::NotApplied(_) => 0,
+    }
+}
+
+pub fn open_code(outcome: OpenOutcome) -> u64
+    ensures { λ r. ⌜ r ≡ codeOf (openedOf outcome) ⌝ }
+{
+    match outcome {
+        OpenOutcome::Opened => 0,
+        OpenOutcome::NotOpened(n) => n,
+    }
+}
+
+pub fn answer_code(outcome: AnswerOutcome) -> u64
+    ensures { λ r. ⌜ r ≡ codeOf (answeredOf outcome) ⌝ }
+{
+    match outcome {
+        AnswerOutcome::InputMissing(_) => 104,
+        AnswerOutcome::AnswerNeeded => 101,
+        AnswerOutcome::FoundInvalid(_) => 105,
+        AnswerOutcome::FoundValid(_) => 106,
+        AnswerOutcome::NotAnswered(n) => n,
     }
 }
 

@@ -12,13 +12,17 @@ use pool_types::Sums;
 use pool_types::Verdict;
 use returns::UnconfirmedTx;
 use words::ids::Id;
+use words::ids::put_id;
 ghost use mathlib.Core.Path.{_≡_};
 ghost use Prim.Native.Nat.{_+_, _≤_};
 ghost use lib.ListN.{length, set};
+ghost use lib.Seq.{sets};
+ghost use Rattle.words.specs.Lists.{pick};
 ghost use Rattle.words.specs.Ids.{wordsAt};
 ghost use Rattle.entries.specs.Layout.{costOf};
 ghost use Rattle.host.specs.Host.{strategyOf};
 ghost use Rattle.host.specs.State.{lowHalf, configOf, countsOf, sumsOf, passOf, stateOf, sourceOf, verdictOf, submissionOf, leftWords};
+ghost use Rattle.host.specs.Stored.{passWords, Stored};
 ghost use Rattle.host.specs.Starts.{Cleared};
 ghost use Rattle.host.specs.Changes.{txOf};
 
@@ -164,6 +168,46 @@ pub fn store_left(s: &mut [u64], mempool: Mempool, written: u64)
     s[24] = written;
 }
 
+fn flag(b: bool) -> u64
+    ensures { λ r. ⌜ r ≡ pick b 1 0 ⌝ }
+{
+    if b {
+        return 1;
+    }
+    0
+}
+
+// A call of a pass changes the pass too, ..
+fn store_pass(s: &mut [u64], pass: Pass)
+    requires { ⌜ 25 ≤ length (now s) ⌝ }
+    ensures { λ _. ⌜ now (s .exit) ≡ sets (now (s .entry)) 14 (passWords pass) ⌝ }
+    ensures { λ _. ⌜ lowHalf (pass .preheader) ≡ pass .preheader ⌝ }
+{
+    let candidate = pass.candidate;
+    s[14] = flag(pass.open);
+    s[15] = flag(pass.out);
+    put_id(s, 16, candidate);
+    s[20] = pass.time;
+    s[21] = pass.limit;
+    s[22] = pass.preheader as u64;
+    s[23] = pass.spent;
+}
+
+// .. and writes no list of ids.
+pub fn store_state(s: &mut [u64], mempool: Mempool)
+    requires { ⌜ 25 ≤ length (now s) ⌝ }
+    ensures { λ _. ⌜ Stored (now (s .entry)) (now (s .exit)) mempool ⌝ }
+{
+    let counts = mempool.counts;
+    store_counts(s, counts);
+    s[11] = mempool.cached as u64;
+    let sums = mempool.sums;
+    store_sums(s, sums);
+    let pass = mempool.pass;
+    store_pass(s, pass);
+    s[24] = 0;
+}
+
 // Zero in the words 9 to 24: the state of an empty pool under its settings.
 pub fn clear(s: &mut [u64])
     requires { ⌜ 25 ≤ length (now s) ⌝ }
@@ -189,7 +233,7 @@ fn source_of(kind: u64, peer: u64) -> Source
 }
 
 // 0 is absent, 1 invalid, any other valid.
-fn verdict_of(kind: u64, cost: u64) -> Verdict
+pub fn verdict_of(kind: u64, cost: u64) -> Verdict
     ensures { λ r. ⌜ r ≡ verdictOf kind cost ⌝ }
 {
     if kind == 0 {
