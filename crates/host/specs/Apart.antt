@@ -1,5 +1,5 @@
 -- What the answered numbers tell: the number of a submission is always one of a submission, and with the number of ids written it tells the
--- outcome; that of a return, an invalidation and a block is always one of theirs; the number of a query that was refused is no count.
+-- outcome; that of a return, an invalidation, a block and the calls of a pass is always one of theirs; the number of a query that was refused is no count.
 use Prim.Native.Nat.{ℕ, _*_, _-_, _^_, _≤_, _<_}
 use mathlib.Core.Path.{_≡_, refl, sym, ap, _∙_}
 use mathlib.Core.Bool.{Bool, true, false, _||_}
@@ -17,14 +17,23 @@ use Rattle.pool_types.specs.declared.InvalidateOutcome.{InvalidateOutcome}
 use Rattle.pool_types.specs.declared.InvalidateOutcome.the-variants.{Invalidated, NotInvalidated}
 use Rattle.pool_types.specs.declared.BlockOutcome.{BlockOutcome}
 use Rattle.pool_types.specs.declared.BlockOutcome.the-variants.{Removed, NotApplied}
-use Rattle.pool_types.specs.Outcomes.{Outcome, processedOf, returnedOf, invalidatedOf, blockOf, refused, done, wrote, needed, candidate, ended, missing, invalid, valid, number, said, entry, none}
+use Rattle.pool_types.specs.declared.OpenOutcome.{OpenOutcome}
+use Rattle.pool_types.specs.declared.OpenOutcome.the-variants.{Opened, NotOpened}
+use Rattle.pool_types.specs.declared.NextOutcome.{NextOutcome}
+use Rattle.pool_types.specs.declared.NextOutcome.the-variants.{Candidate, Ended, NoPass}
+use Rattle.pool_types.specs.declared.AnswerOutcome.{AnswerOutcome}
+use Rattle.pool_types.specs.declared.AnswerOutcome.the-variants.{InputMissing, AnswerNeeded, FoundInvalid, FoundValid, NotAnswered}
+use Rattle.pool_types.specs.Outcomes.{Outcome, processedOf, returnedOf, invalidatedOf, blockOf, openedOf, nextOf, answeredOf, refused, done, wrote, needed, candidate, ended, missing, invalid, valid, number, said, entry, none}
+use Rattle.pool_types.specs.declared.Verdict.{Verdict}
 use Rattle.boxes.specs.Among.{among, among-cons}
 use Rattle.process.specs.Numbers.{refusals, ofSubmission}
 use Rattle.returns.specs.Numbers.{returnRefusals, ofReturn, ofInvalidation}
 use Rattle.blocks.specs.Numbers.{ofBlock}
+use Rattle.cleanup.specs.Numbers.{ofOpen, ofNext, ofAnswer}
 use Rattle.host.specs.Codes.{codeOf, writtenOf}
 use Rattle.host.specs.Calls.{Lent, Submitted}
 use Rattle.host.specs.Changes.{ReturnCall, InvalidateCall, BlockCall}
+use Rattle.host.specs.Passes.{OpenCall, NextCall, AnswerCall}
 
 differ : {A : Type 0} → false ≡ true → A
 differ e = let z : _≡_ {A = ℕ} 0 1 = cc in absurd (omega arith)
@@ -143,6 +152,50 @@ block-ours {s₀ = s₀} {t₀ = t₀} {code = code} r = go (decLt (length s₀)
     go (yes p) q = rw (r .shortState p .answered)
     go (no p) (yes q) = rw (r .shortStats q .answered)
     go (no p) (no q) = let a = r .ran (omega (arith, p)) (omega (arith, q)) in rw (a .left .answered) (block-code (a .outcome) (a .ours))
+
+-- ---- the calls of a pass: opened with 0; a candidate with 102 and ended with 103; an input missing, invalid and valid with 104 to 106
+
+open-code : (o : OpenOutcome) → ofOpen o ≡ true → among (codeOf (openedOf o)) (0 ∷ 1 ∷ 20 ∷ []) ≡ true
+unfolding ofOpen openedOf codeOf
+open-code Opened h = refl
+open-code (NotOpened n) h = one-more n 0 (1 ∷ 20 ∷ []) (one-more n 1 (20 ∷ []) h)
+
+next-code : (o : NextOutcome) → ofNext o ≡ true → among (codeOf (nextOf o)) (102 ∷ 103 ∷ 2 ∷ 21 ∷ 1 ∷ []) ≡ true
+unfolding ofNext nextOf codeOf
+next-code (Candidate x) h = refl
+next-code (Ended n) h = refl
+next-code (NoPass n) h = one-more n 102 (103 ∷ 2 ∷ 21 ∷ 1 ∷ []) (one-more n 103 (2 ∷ 21 ∷ 1 ∷ []) (one-more n 2 (21 ∷ 1 ∷ []) h))
+
+answer-code : (o : AnswerOutcome) → ofAnswer o ≡ true → among (codeOf (answeredOf o)) (101 ∷ 104 ∷ 105 ∷ 106 ∷ 21 ∷ 1 ∷ []) ≡ true
+unfolding ofAnswer answeredOf codeOf
+answer-code (InputMissing x) h = refl
+answer-code AnswerNeeded h = refl
+answer-code (FoundInvalid x) h = refl
+answer-code (FoundValid x) h = refl
+answer-code (NotAnswered n) h =
+    one-more n 101 (104 ∷ 105 ∷ 106 ∷ 21 ∷ 1 ∷ []) (one-more n 104 (105 ∷ 106 ∷ 21 ∷ 1 ∷ []) (one-more n 105 (106 ∷ 21 ∷ 1 ∷ []) (one-more n 106 (21 ∷ 1 ∷ []) h)))
+
+pub open-ours : {s₀ s : List ℕ} {time limit preheader code : ℕ} → OpenCall s₀ s time limit preheader code → among code (0 ∷ 1 ∷ 20 ∷ []) ≡ true
+open-ours {s₀ = s₀} {code = code} r = go (decLt (length s₀) 25)
+  where
+    go : Dec (length s₀ < 25) → among code (0 ∷ 1 ∷ 20 ∷ []) ≡ true
+    go (yes p) = rw (r .short p .answered)
+    go (no p) = let a = r .ran (omega (arith, p)) in rw (a .left .answered) (open-code (a .outcome) (a .ours))
+
+pub next-ours : {e s₀ s a₀ a : List ℕ} {code : ℕ} → NextCall e s₀ s a₀ a code → among code (102 ∷ 103 ∷ 2 ∷ 21 ∷ 1 ∷ []) ≡ true
+next-ours {s₀ = s₀} {a₀ = a₀} {code = code} r = go (decLt (length s₀) 25) (decLt (length a₀) 4)
+  where
+    go : Dec (length s₀ < 25) → Dec (length a₀ < 4) → among code (102 ∷ 103 ∷ 2 ∷ 21 ∷ 1 ∷ []) ≡ true
+    go (yes p) q = rw (r .shortState p .answered)
+    go (no p) (yes q) = rw (r .shortAnswer (omega (arith, p)) q .0)
+    go (no p) (no q) = let a = r .ran (omega (arith, p)) (omega (arith, q)) in rw (a .left .answered) (next-code (a .outcome) (a .ours))
+
+pub answer-ours : {e₀ e b₀ b k₀ k s₀ s flags : List ℕ} {v : Verdict} {code : ℕ} → AnswerCall e₀ e b₀ b k₀ k s₀ s flags v code → among code (101 ∷ 104 ∷ 105 ∷ 106 ∷ 21 ∷ 1 ∷ []) ≡ true
+answer-ours {s₀ = s₀} {code = code} r = go (decLt (length s₀) 25)
+  where
+    go : Dec (length s₀ < 25) → among code (101 ∷ 104 ∷ 105 ∷ 106 ∷ 21 ∷ 1 ∷ []) ≡ true
+    go (yes p) = rw (r .short p .answered)
+    go (no p) = let a = r .ran (omega (arith, p)) in rw (a .left .answered) (answer-code (a .outcome) (a .ours))
 
 -- ---- a query
 

@@ -71,7 +71,7 @@ pub record Idle (code : ℕ) (was are : List (List ℕ)) : Type 0 where
   pub answered : code ≡ 1
   pub words : are ≡ was
 
-idle : (l : List (List ℕ)) → Idle 1 l l
+pub idle : (l : List (List ℕ)) → Idle 1 l l
 idle l = record { answered = refl; words = refl }
 
 changed : (s₀ s : List ℕ) (r : Mempool) (n : ℕ) {code : ℕ} (o : Outcome) → 25 ≤ length s₀ → s ≡ leftWords s₀ (r .counts) (r .cached) (r .sums) n → code ≡ codeOf o → n ≡ writtenOf o → Changed s₀ s o code

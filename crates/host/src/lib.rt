@@ -18,6 +18,13 @@
 //     u64 gunthyd_apply_block_at(u64 *entries, size_t entries_len, u64 *boxes, size_t boxes_len, u64 *cache, size_t cache_len,
 //                                u64 *answer, size_t answer_len, u64 *state, size_t state_len, u64 *stats, size_t stats_len, u64 time,
 //                                const u64 *transactions, size_t transactions_len, const u64 *inputs, size_t inputs_len);
+//     u64 gunthyd_open(u64 *state, size_t state_len, u64 time, u64 limit, uint32_t preheader);
+//     u64 gunthyd_next(const u64 *entries, size_t entries_len, u64 *state, size_t state_len, u64 *answer, size_t answer_len);
+//     u64 gunthyd_answer(u64 *entries, size_t entries_len, u64 *boxes, size_t boxes_len, u64 *cache, size_t cache_len,
+//                        u64 *state, size_t state_len, const u64 *flags, size_t flags_len, u64 verdict, u64 cost);
+//     u64 gunthyd_select_for_rebroadcast(const u64 *entries, size_t entries_len, const u64 *boxes, size_t boxes_len,
+//                                        u64 *answer, size_t answer_len, const u64 *state, size_t state_len,
+//                                        const u64 *confirmed, size_t confirmed_len);
 //     u64 gunthyd_len(const u64 *state, size_t state_len);
 //     u64 gunthyd_contains(const u64 *entries, size_t entries_len, const u64 *cache, size_t cache_len, const u64 *state, size_t state_len,
 //                          u64 time, u64 a, u64 b, u64 c, u64 d);
@@ -32,7 +39,8 @@
 //                                   u64 time, uint32_t bins, u64 longest);
 //
 // a, b, c, d are an id's four words, the first bytes first. Lent tables: entries 14 words each, boxes 10, cache 5, peers 2 (docs/DECISIONS.md, D1).
-// Lists: inputs 4 words each; outputs 7 of a submission, 5 of a return; transactions of a block 5 (D3, D4).
+// Lists: inputs 4 words each; outputs 7 of a submission, 5 of a return; transactions of a block 5 (D3, D4); flags, one word for each input of the
+// candidate, 0 for not confirmed; confirmed boxes 4. A verdict and its cost are two words as in a submission.
 //
 //     state, 25 words                                   a submission, 11 words
 //      0 capacity               9 pooled                 0 time
@@ -58,20 +66,23 @@
 //     123 snap_taken                                                             12 peer
 //
 //     answers of calls that change the pool             answers of queries
-//     0 ready, accepted, returned, invalidated          len: the number pooled; top: how many entries were written
+//     0 ready, accepted, returned, invalidated, opened  len: the number pooled; top: how many entries were written
 //     100 replaced, applied: word 24 ids written        contains: 1 yes, 0 no
 //     101 verdict needed                                spending_tx: 1 written to the first 6 words, 0 none
-//     n refusal n; at 29 word 24 ids written            recommended_fee, expected_wait_ms_at: 1 written to the first word
-//                                                       pool_histogram_at: how many pairs were written
-//                                                       2^64-1-n refusal n
+//     102 candidate: its id, the first 4 words written  recommended_fee, expected_wait_ms_at: 1 written to the first word
+//     103 ended: the sum, the first word written        pool_histogram_at: how many pairs were written
+//     104 an input is missing, 105 invalid, 106 valid   select_for_rebroadcast: how many ids were written
+//     n refusal n; at 29 word 24 ids written            2^64-1-n refusal n
 //
-// Too few words of a state, of statistics, of a submission or of a transaction are refusal 1, and nothing changes. Start takes its settings from
-// words 0 to 8 and clears 9 to 24; start_stats empties the statistics, their window at `time`; any other changing call changes 9 to 13 and 24, and
-// no other word of the state.
+// Too few words of a state, of statistics, of a submission or of a transaction are refusal 1, less than 4 words of an answer buffer are refusal 2 of
+// next, and nothing changes. Start takes its settings from words 0 to 8 and clears 9 to 24; start_stats empties the statistics, their window at `time`;
+// open, next and answer change 9 to 24, and store a pass as it is decoded, refused or not: a flag as 0 or 1, a preheader without its high half; any
+// other changing call changes 9 to 13 and 24, and no other word of the state.
 pub mod changes;
 pub mod codes;
 pub mod fee_queries;
 pub mod layout;
+pub mod passes;
 pub mod queries;
 pub mod statistics;
 
