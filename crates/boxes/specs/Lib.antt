@@ -6,5 +6,6 @@ pub mod Layout
 pub mod Marks
 pub mod Mapped
 pub mod Writing
+pub mod Clear
 pub mod Posts
 pub mod IndexLaws

@@ -1,11 +1,11 @@
 -- What the functions that change the records promise: the words before are l, those after are m.
 use Prim.Native.Nat.{ℕ, _+_, _≤_}
-use mathlib.Core.Path.{_≡_}
-use mathlib.Core.Bool.{Bool}
-use mathlib.Core.List.{List, _++_}
+use mathlib.Core.Path.{_≡_, sym, _∙_}
+use mathlib.Core.Bool.{Bool, true, false}
+use mathlib.Core.List.{List, _++_, map}
 use lib.ListN.{length}
 use Rattle.boxes.specs.Records.{enterTx, dropOwner}
-use Rattle.boxes.specs.Entering.{newBoxes}
+use Rattle.boxes.specs.Entering.{hideTx, newBoxes, entered}
 use Rattle.boxes.specs.Layout.{boxesOf}
 
 -- transaction k has entered with n records, and r are used now
@@ -13,6 +13,17 @@ pub record Entered (l m : List ℕ) (used n r k : ℕ) (ins outs : List ℕ) : T
   pub kept : length m ≡ length l
   pub count : r ≡ used + n
   pub rows : boxesOf m r ≡ enterTx k ins outs (boxesOf l used)
+
+-- the n records of transaction k stand behind the used ones, and r are used now
+pub record Behind (l m : List ℕ) (used n r k : ℕ) (ins outs : List ℕ) : Type 0 where
+  pub kept : length m ≡ length l
+  pub count : r ≡ used + n
+  pub rows : boxesOf m r ≡ boxesOf l used ++ (newBoxes false k ins ++ newBoxes true k outs)
+
+-- .. in words h, in which the older records are hidden: so it has entered
+pub entered-behind : (l h m : List ℕ) (used n r k : ℕ) (ins outs : List ℕ) → length h ≡ length l → boxesOf h used ≡ map (hideTx ins outs) (boxesOf l used) → Behind h m used n r k ins outs → Entered l m used n r k ins outs
+entered-behind l h m used n r k ins outs g e b =
+    record { kept = b .kept ∙ g; count = b .count; rows = b .rows ∙ rw e (sym (entered k ins outs (boxesOf l used))) }
 
 -- transaction k has left, and r records are used now
 pub record Dropped (l m : List ℕ) (used r k : ℕ) : Type 0 where

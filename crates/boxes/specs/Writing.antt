@@ -2,14 +2,14 @@
 use Prim.Native.Nat.{ℕ, _+_, _*_, _≤_, _<_}
 use mathlib.Core.Path.{_≡_, sym, ap, _∙_}
 use mathlib.Core.Bool.{Bool, true, false}
-use mathlib.Core.List.{List, _++_, map, append-assoc, append-nil}
+use mathlib.Core.List.{List, _++_, append-assoc, append-nil}
 use native.Mathlib.Nat.{add-zero, add-assoc}
 use native.Mathlib.Omega.{arith}
 use lib.ListN.{take, drop, set}
 use Rattle.words.specs.Tables.{drop-of, drop-past, put-end, of-none}
 use Rattle.words.specs.Ids.{idAt}
-use Rattle.boxes.specs.Records.{BoxRec, enterTx}
-use Rattle.boxes.specs.Entering.{overtakenBy, hidden, hideTx, hide-yes, hide-no, newBox, newBoxes, entered}
+use Rattle.boxes.specs.Records.{BoxRec}
+use Rattle.boxes.specs.Entering.{overtakenBy, hidden, hideTx, hide-yes, hide-no, newBox, newBoxes}
 use Rattle.boxes.specs.Flat.{countOf, idsOf, ids}
 use Rattle.boxes.specs.Layout.{BoxesOk, boxAt, boxesOf, boxes, tail-put}
 use Rattle.boxes.specs.Mapped.{put-again}
@@ -55,8 +55,6 @@ module _ (o : Bool) (k W : ℕ) (l : List ℕ) where
 pub write-both : (t m₁ m₂ : List ℕ) (n r : ℕ) (a b : List BoxRec) → boxesOf m₁ n ≡ boxesOf t 0 ++ a → boxesOf m₂ r ≡ boxesOf m₁ n ++ b → boxesOf m₂ r ≡ a ++ b
 write-both t m₁ m₂ n r a b e f = f ∙ rw (e, of-none boxes t)
 
--- .. in the free tail t of words h, in which the older records are hidden
-pub enter-all : (l h t z : List ℕ) (used r k : ℕ) (ins outs : List ℕ) → BoxesOk h used → BoxesOk t r
-    → boxesOf h used ≡ map (hideTx ins outs) (boxesOf l used) → boxesOf t r ≡ newBoxes false k ins ++ newBoxes true k outs
-    → boxesOf (take (used * 10) h ++ (t ++ z)) (used + r) ≡ enterTx k ins outs (boxesOf l used)
-enter-all l h t z used r k ins outs a b e f = tail-put h t z used r a b ∙ rw (e, f) (sym (entered k ins outs (boxesOf l used)))
+-- .. in the free tail t of words l
+pub write-tail : (l t z : List ℕ) (used r : ℕ) (new : List BoxRec) → BoxesOk l used → BoxesOk t r → boxesOf t r ≡ new → boxesOf (take (used * 10) l ++ (t ++ z)) (used + r) ≡ boxesOf l used ++ new
+write-tail l t z used r new a b e = tail-put l t z used r a b ∙ ap (λ (rs : List BoxRec). boxesOf l used ++ rs) e

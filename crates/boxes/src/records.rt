@@ -26,17 +26,35 @@ ghost use Rattle.boxes.specs.Flat.{countOf, idsOf};
 ghost use Rattle.boxes.specs.Layout.{BoxesOk, boxAt, boxesOf};
 ghost use Rattle.boxes.specs.Entering.{overtakenBy, hideTx, newBox, newBoxes};
 ghost use Rattle.boxes.specs.Marks.{Marked};
-ghost use Rattle.boxes.specs.Posts.{Entered, Dropped, Written};
+ghost use Rattle.boxes.specs.Clear.{Clear};
+ghost use Rattle.boxes.specs.Posts.{Entered, Behind, Dropped, Written};
 
 // ---- a transaction leaves
 
-// Keeps, in order, the records that another transaction owns, live or not, and returns how many they are.
-pub fn drop_owner(s: &mut [u64], used: usize, owner: Id) -> usize
+// Where the records that a transaction owns begin: it owns none of those before.
+fn first_owned(s: &[u64], used: usize, owner: Id) -> usize
     requires { ⌜ BoxesOk (now s) used ⌝ }
+    ensures { λ r. ⌜ (r ≤ used) × Clear (now (s .entry)) (idOf owner) r ⌝ }
+{
+    let mut i = 0;
+    while i < used {
+        if same_id(box_owner(s, i), owner) {
+            return i;
+        }
+        i += 1;
+    }
+    i
+}
+
+// Keeps, in order, the records that another transaction owns, live or not, and returns how many they are. The first `from`, of which it owns
+// none, stay where they are.
+pub fn drop_from(s: &mut [u64], used: usize, owner: Id, from: usize) -> usize
+    requires { ⌜ BoxesOk (now s) used ⌝ }
+    requires { ⌜ (from ≤ used) × Clear (now s) (idOf owner) from ⌝ }
     ensures { λ r. ⌜ Dropped (now (s .entry)) (now (s .exit)) used r (idOf owner) ⌝ }
 {
-    let mut w = 0;
-    let mut r = 0;
+    let mut w = from;
+    let mut r = from;
     while r < used {
         if same_id(box_owner(s, r), owner) {
             r += 1;
@@ -47,6 +65,15 @@ pub fn drop_owner(s: &mut [u64], used: usize, owner: Id) -> usize
         }
     }
     w
+}
+
+// All records that a transaction owns go.
+pub fn drop_owner(s: &mut [u64], used: usize, owner: Id) -> usize
+    requires { ⌜ BoxesOk (now s) used ⌝ }
+    ensures { λ r. ⌜ Dropped (now (s .entry)) (now (s .exit)) used r (idOf owner) ⌝ }
+{
+    let from = first_owned(s, used, owner);
+    drop_from(s, used, owner, from)
 }
 
 // ---- a transaction enters
@@ -209,8 +236,26 @@ fn write_records(
     write_list(tail, at, owner, true, outputs, out_width)
 }
 
-// A transaction's records enter: older ones of its boxes are hidden, and the free tail is lent to the writer of the new ones. Returns how
-// many records are used then.
+// A newcomer's records stand behind the used ones: the free tail is lent to their writer. Returns how many records are used then.
+pub fn write_behind(
+    s: &mut [u64],
+    used: usize,
+    owner: Id,
+    inputs: &[u64],
+    in_width: usize,
+    outputs: &[u64],
+    out_width: usize,
+) -> usize
+    requires { ⌜ BoxesOk (now s) (used + (countOf «in_width» (now inputs) + countOf «out_width» (now outputs))) ⌝ }
+    requires { ⌜ (4 ≤ «in_width») × (4 ≤ «out_width») ⌝ }
+    ensures { λ r. ⌜ Behind (now (s .entry)) (now (s .exit)) used (countOf «in_width» (now (inputs .entry)) + countOf «out_width» (now (outputs .entry))) r (idOf owner) (idsOf «in_width» (now (inputs .entry))) (idsOf «out_width» (now (outputs .entry))) ⌝ }
+{
+    let from = used * 10;
+    used + write_records(&mut s[from..], owner, inputs, in_width, outputs, out_width)
+}
+
+// A transaction's records enter: older ones of its boxes are hidden, and the new ones stand behind them. Returns how many records are used
+// then.
 pub fn enter_tx(
     s: &mut [u64],
     used: usize,
@@ -225,6 +270,5 @@ pub fn enter_tx(
     ensures { λ r. ⌜ Entered (now (s .entry)) (now (s .exit)) used (countOf «in_width» (now (inputs .entry)) + countOf «out_width» (now (outputs .entry))) r (idOf owner) (idsOf «in_width» (now (inputs .entry))) (idsOf «out_width» (now (outputs .entry))) ⌝ }
 {
     hide_older(s, used, inputs, in_width, outputs, out_width);
-    let from = used * 10;
-    used + write_records(&mut s[from..], owner, inputs, in_width, outputs, out_width)
+    write_behind(s, used, owner, inputs, in_width, outputs, out_width)
 }

@@ -96,15 +96,12 @@ pub(crate) fn store_box(s: &mut [u64], at: usize, b: BoxRow)
     put_row(s, at * 10, b);
 }
 
-// The record at `from`, written at `to` too. Where nothing has been dropped yet both are one place, and nothing is written.
+// The record at `from`, written at `to` too.
 pub(crate) fn move_box(s: &mut [u64], from: usize, to: usize)
     requires { ⌜ BoxesOk (now s) (from + 1) ⌝ }
     requires { ⌜ BoxesOk (now s) (to + 1) ⌝ }
     ensures { λ _. ⌜ ((m : ℕ) → boxesOf (now (s .exit)) m ≡ set (boxesOf (now (s .entry)) m) to (boxAt (now (s .entry)) from)) ⌝ }
 {
-    if from == to {
-        return;
-    }
     let b = load_box(s, from);
     store_box(s, to, b);
 }

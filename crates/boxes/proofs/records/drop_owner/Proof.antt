@@ -1,71 +1,19 @@
--- `records::drop_owner` meets its contract. The loop's invariant is `Kept`: the first w records are those kept of r read, and those not read
--- yet are as they were. Assumes nothing.
-use native.Mathlib.Omega.{arith}
+-- `records::drop_owner` meets its contract: those in front of the first one that it owns stay. Assumes nothing.
 use borrow.Author.Needs.{needs}
-use Prim.Native.Nat.{_-_}
-use mathlib.Core.Path.{_≡_, refl, sym, ap, _∙_}
-use lib.ListN.{length}
-use Rattle.words.specs.Ids.{idOf}
-use Rattle.words.specs.Lists.{other}
-use Rattle.words.specs.Tables.{Kept, kept-none, kept-no, kept-yes, kept-all}
-use Rattle.boxes.specs.Among.{not-other, is-other}
-use Rattle.boxes.specs.Layout.{boxesOf, boxes, ok-still, ok-bound}
 use Rattle.boxes.proofs.records.drop_owner.Statement.{statement}
 use Rattle.boxes.proofs.records.drop_owner.Tie as tie
 
-abbrev Inv-loop : tie.InvT-loop
-Inv-loop s₀ used owner w₀ r₀ s w r = (length s ≡ length s₀) × Kept boxesOf (λ b. other (idOf owner) (b .owner)) s₀ s used w r
+first-owned-requires : tie.Need-first-owned-requires
+first-owned-requires c κs = search needs
 
-abbrev μ-loop : tie.MeasureT-loop
-μ-loop s₀ used owner w₀ r₀ s w r = used - r
+drop-from-requires : tie.Need-drop-from-requires
+drop-from-requires c κs = search needs
 
-loop-holds : tie.Need-loop-holds Inv-loop μ-loop
-loop-holds c = (refl, kept-none boxes _ _ _)
+same-length : tie.Need-same-length
+same-length c = search needs
 
-box-owner-requires : tie.Need-box-owner-requires Inv-loop μ-loop
-box-owner-requires c κs = ok-still _ _ _ _ (c .before .before .before .before .pre) (c .before .before .loop .inv .0) (omega arith)
-
-same-id-requires : tie.Need-same-id-requires Inv-loop μ-loop
-same-id-requires c κs = search needs
-
-add-r : tie.Need-add-r Inv-loop μ-loop
-add-r c = omega (arith, ok-bound _ _ (c .before .before .before .before .before .before .before .pre))
-
-loop-less : tie.Need-loop-less Inv-loop μ-loop
-loop-less c = omega arith
-
-loop-again : tie.Need-loop-again Inv-loop μ-loop
-loop-again c =
-    let i = c .before .before .before .before .before .loop .inv in
-    (i .0, kept-no boxes _ _ _ _ _ _ (c .before .before .before .before .loop-test .taken) (i .1) (not-other _ _ _ (c .before .before .box-owner .ensures) (sym (c .before .same-id .ensures) ∙ c .if1 .taken)))
-
-move-box-requires : tie.Need-move-box-requires Inv-loop μ-loop
-move-box-requires c κs =
-    let p = c .before .before .before .before .before .before .before .before .pre in
-    let e = c .before .before .before .before .before .before .loop .inv .0 in
-    (ok-still _ _ _ _ p e (omega arith), ok-still _ _ _ _ p e (omega arith))
-
-add-w : tie.Need-add-w Inv-loop μ-loop
-add-w c = omega (arith, ok-bound _ _ (c .before .before .before .before .before .before .before .before .before .before .before .pre))
-
-add-r-2 : tie.Need-add-r-2 Inv-loop μ-loop
-add-r-2 c = omega (arith, ok-bound _ _ (c .before .before .before .before .before .before .before .before .before .before .before .pre))
-
-loop-less-2 : tie.Need-loop-less-2 Inv-loop μ-loop
-loop-less-2 c = omega arith
-
-loop-again-2 : tie.Need-loop-again-2 Inv-loop μ-loop
-loop-again-2 c =
-    let t = is-other _ _ _ (c .before .before .before .before .before .before .box-owner .ensures) (sym (c .before .before .before .before .before .same-id .ensures) ∙ c .before .before .before .before .if1 .left) in
-    (omega arith, kept-yes boxes _ _ _ _ _ _ (c .before .before .before .before .before .before .before .before .loop-test .taken) (c .before .before .before .before .before .before .before .before .before .loop .inv .1) _ t (c .before .before .move-box .ensures))
-
-same-length : tie.Need-same-length Inv-loop μ-loop
-same-length c = omega arith
-
-returns : tie.Need-returns Inv-loop μ-loop
-returns c =
-    let e = kept-all boxes (λ b. other (idOf (c .before .before .before .args .owner)) (b .owner)) _ _ _ _ _ (c .loop-test .left) (c .before .loop .inv .1) in
-    record { kept = omega arith; fewer = omega arith; count = sym (boxes .len _ _) ∙ ap length e; rows = e }
+returns : tie.Need-returns
+returns c = c .before .before .drop-from .ensures
 
 pub drop-owner-spec : {M : Type 1} → statement M
-drop-owner-spec = tie.close (tie.spec Inv-loop μ-loop loop-holds box-owner-requires same-id-requires add-r loop-less loop-again move-box-requires add-w add-r-2 loop-less-2 loop-again-2 same-length returns)
+drop-owner-spec = tie.close (tie.spec first-owned-requires drop-from-requires same-length returns)
