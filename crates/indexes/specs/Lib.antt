@@ -6,3 +6,4 @@ pub mod Parents
 pub mod Seeking
 pub mod Resolved
 pub mod Orphans
+pub mod Quiet

@@ -3,4 +3,5 @@ pub mod conflicts;
 pub mod inputs;
 pub mod orphans;
 pub mod owners;
+pub mod quiet;
 pub mod resolved;

@@ -1,0 +1,50 @@
+-- `quiet::first_near` meets its contract. The loop's invariant is `Run`. Assumes nothing.
+use native.Mathlib.Omega.{arith}
+use borrow.Author.Needs.{needs}
+use Prim.Native.Nat.{_-_}
+use mathlib.Core.Path.{refl, sym, _∙_}
+use Rattle.words.specs.Ids.{idOf}
+use Rattle.boxes.specs.Flat.{idsOf}
+use Rattle.boxes.specs.Layout.{ok-still, ok-bound}
+use Rattle.indexes.specs.Quiet.{Run, run-none, run-more}
+use Rattle.indexes.proofs.quiet.first_near.Statement.{statement}
+use Rattle.indexes.proofs.quiet.first_near.Tie as tie
+
+abbrev Inv-loop : tie.InvT-loop
+Inv-loop s used from id low marks inputs in-width outputs out-width i₀ i = Run s used from i (idOf id) (idOf low) (idsOf in-width inputs) (idsOf out-width outputs)
+
+abbrev μ-loop : tie.MeasureT-loop
+μ-loop s used from id low marks inputs in-width outputs out-width i₀ i = used - i
+
+loop-holds : tie.Need-loop-holds Inv-loop μ-loop
+loop-holds c = run-none _ _ _ _ _ _ _ (c .before .before .before .before .pre .0 .1)
+
+box-owner-requires : tie.Need-box-owner-requires Inv-loop μ-loop
+box-owner-requires c κs = ok-still _ _ _ _ (c .before .before .before .before .before .before .pre .0 .0) refl (omega arith)
+
+same-id-requires : tie.Need-same-id-requires Inv-loop μ-loop
+same-id-requires c κs = search needs
+
+returns : tie.Need-returns Inv-loop μ-loop
+returns c = c .before .before .before .before .loop .inv
+
+is-near-requires : tie.Need-is-near-requires Inv-loop μ-loop
+is-near-requires c κs = (ok-still _ _ _ _ (c .before .before .before .before .before .before .before .before .before .pre .0 .0) refl (omega arith), c .before .before .before .before .before .before .before .before .before .pre .1)
+
+returns-2 : tie.Need-returns-2 Inv-loop μ-loop
+returns-2 c = c .before .before .before .before .before .before .loop .inv
+
+add-i : tie.Need-add-i Inv-loop μ-loop
+add-i c = omega (arith, ok-bound _ _ (c .before .before .before .before .before .before .before .before .before .before .before .pre .0 .0))
+
+loop-less : tie.Need-loop-less Inv-loop μ-loop
+loop-less c = omega arith
+
+loop-again : tie.Need-loop-again Inv-loop μ-loop
+loop-again c = run-more _ _ _ _ _ _ _ _ _ (omega arith) (c .before .before .before .before .box-owner .ensures) (sym (c .before .before .before .same-id .ensures) ∙ c .before .before .if1 .left) (c .before .is-near .ensures (c .if2 .left)) (c .before .before .before .before .before .before .loop .inv)
+
+returns-3 : tie.Need-returns-3 Inv-loop μ-loop
+returns-3 c = c .before .loop .inv
+
+pub first-near-spec : {M : Type 1} → statement M
+first-near-spec = tie.close (tie.spec Inv-loop μ-loop loop-holds box-owner-requires same-id-requires returns is-near-requires returns-2 add-i loop-less loop-again returns-3)
