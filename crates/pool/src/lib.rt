@@ -1,8 +1,10 @@
 // The ordered pool: the entries in priority order and the box records, both in words that the caller lends. `Counts` says how much of
 // them is in use; it goes through every call.
 use boxes::lists;
+use boxes::records::drop_from;
 use boxes::records::drop_owner;
 use boxes::records::enter_tx;
+use boxes::records::write_behind;
 use boxes::rows::boxes_room;
 use entries::fields::PoolEntry;
 use entries::fields::entries_room;
@@ -12,13 +14,17 @@ use entries::table::insert_entry;
 use entries::table::remove_entry;
 use pool_types::Counts;
 use words::ids::Id;
+use words::ids::same_id;
 ghost use mathlib.Core.Path.{_≡_};
 ghost use mathlib.Core.Bool.{not};
+ghost use mathlib.Core.List.{map};
 ghost use Prim.Native.Nat.{_+_, _≤_, _<_};
 ghost use Rattle.words.specs.Ids.{idOf};
 ghost use Rattle.words.specs.Find.{last};
 ghost use Rattle.entries.specs.Layout.{EntriesOk, entryOf, entriesOf, entriesRoom};
-ghost use Rattle.boxes.specs.Layout.{boxesRoom};
+ghost use Rattle.boxes.specs.Entering.{hideTx};
+ghost use Rattle.boxes.specs.Layout.{boxesRoom, boxesOf};
+ghost use Rattle.boxes.specs.Clear.{Clear};
 ghost use Rattle.boxes.specs.Flat.{countOf, idsOf, idsTo};
 ghost use Rattle.pool.specs.Pool.{PoolFits, fitsTest, Room, noRoom, Left, tablesOf, insertTx, removeTx, removeAll, nobody, dropLow};
 
@@ -64,6 +70,39 @@ pub fn insert(
 {
     let id = e.id;
     let records = enter_tx(
+        boxes,
+        counts.records,
+        id,
+        inputs,
+        in_width,
+        outputs,
+        out_width,
+    );
+    insert_entry(entries, counts.pooled, e);
+    Counts {
+        pooled: counts.pooled + 1,
+        records,
+    }
+}
+
+// The same where no older record is hidden: the records stay as they are, and the new ones stand behind them.
+pub fn insert_alone(
+    entries: &mut [u64],
+    boxes: &mut [u64],
+    counts: Counts,
+    e: PoolEntry,
+    inputs: &[u64],
+    in_width: usize,
+    outputs: &[u64],
+    out_width: usize,
+) -> Counts
+    requires { ⌜ Room (now entries) (now boxes) counts (countOf «in_width» (now inputs) + countOf «out_width» (now outputs)) ⌝ }
+    requires { ⌜ (4 ≤ «in_width») × (4 ≤ «out_width») ⌝ }
+    requires { ⌜ map (hideTx (idsOf «in_width» (now inputs)) (idsOf «out_width» (now outputs))) (boxesOf (now boxes) (counts .records)) ≡ boxesOf (now boxes) (counts .records) ⌝ }
+    ensures { λ r. ⌜ Left (now (entries .exit)) (now (boxes .exit)) r (insertTx (entryOf e) (idsOf «in_width» (now (inputs .entry))) (idsOf «out_width» (now (outputs .entry))) (tablesOf (now (entries .entry)) (now (boxes .entry)) counts)) ⌝ }
+{
+    let id = e.id;
+    let records = write_behind(
         boxes,
         counts.records,
         id,
@@ -139,6 +178,29 @@ pub fn evict_lowest(entries: &mut [u64], boxes: &mut [u64], counts: Counts) -> C
 {
     let id = lowest_id(entries, counts);
     let records = drop_owner(boxes, counts.records, id);
+    Counts {
+        pooled: counts.pooled - 1,
+        records,
+    }
+}
+
+// The same where it is known that `low` owns none of the first `from` records: if that one is the lowest they are not read.
+pub fn evict_low(
+    entries: &mut [u64],
+    boxes: &mut [u64],
+    counts: Counts,
+    low: Id,
+    from: usize,
+) -> Counts
+    requires { ⌜ PoolFits (now entries) (now boxes) counts ⌝ }
+    requires { ⌜ 0 < counts .pooled ⌝ }
+    requires { ⌜ (from ≤ counts .records) × Clear (now boxes) (idOf low) from ⌝ }
+    ensures { λ r. ⌜ Left (now (entries .exit)) (now (boxes .exit)) r (dropLow (tablesOf (now (entries .entry)) (now (boxes .entry)) counts)) ⌝ }
+{
+    if !same_id(lowest_id(entries, counts), low) {
+        return evict_lowest(entries, boxes, counts);
+    }
+    let records = drop_from(boxes, counts.records, low, from);
     Counts {
         pooled: counts.pooled - 1,
         records,
