@@ -11,7 +11,6 @@ use borrow.Author.Tests.{lt-ltb, le-ltb, ne-eqb}
 use Rattle.words.specs.Lists.{pick, keep}
 use Rattle.words.specs.Find.{without}
 use Rattle.pool_types.specs.Outcomes.{processedOf, refused, done, wrote}
-use Rattle.words.specs.Tables.{of-none}
 use Rattle.words.specs.Sums.{cap}
 use Rattle.pool_types.specs.declared.Counts.{Counts}
 use Rattle.pool_types.specs.declared.MempoolConfig.{MempoolConfig}
@@ -26,14 +25,13 @@ use Rattle.entries.specs.Layout.{entries}
 use Rattle.entries.specs.Layout.{ok-still as entries-still, ok-fewer as entries-fewer}
 use Rattle.entries.specs.Laws.{length-without}
 use Rattle.boxes.specs.Records.{dropOwner, index, conflicts}
-use Rattle.boxes.specs.Flat.{idsTo, idsOf, ids}
+use Rattle.boxes.specs.Flat.{idsOf}
 use Rattle.boxes.specs.Layout.{boxes}
 use Rattle.boxes.specs.Layout.{ok-still as boxes-still}
 use Rattle.pool.specs.Pool.{Tables, tablesOf, PoolFits, Room, Left, insertTx, removeTx, removeAll, evicted}
 use Rattle.family.specs.Family.{propagated}
 use Rattle.answers.specs.Answers.{Wrote, wrote-nothing, wrote-both}
 use Rattle.admit.specs.Admit.{Admitted, costOf, loses, crowded, newcomer, joined, settled, seated, contested, admitSpec}
-use Rattle.admit.specs.Contests.{spent, unspent}
 use Rattle.admit.specs.Evictions.{Evicts}
 use Rattle.admit.specs.declared.admission.Admission.{Admission}
 use Rattle.admit.specs.declared.evictions.Evicted.{Evicted}
@@ -134,7 +132,12 @@ module _ (visits capacity : ℕ) (x : Entry) (ins outs ks : List ℕ) (t : Table
   unfolding contested
   contest-won e b r a₀ a u h p l = rw (h, ← p) l
 
--- ---- 10, or the contest; where none of its boxes is spent there is nobody to contest with
+  -- there is nobody to contest with
+  pub contest-free : (js : List ℕ) (e b : List ℕ) (r : Admission) (a₀ a : List ℕ) → ks ≡ [] → js ≡ [] → Leaves e b r a₀ a (seated visits capacity x ins outs js t) → Leaves e b r a₀ a (contested visits capacity x ins outs ks t)
+  unfolding contested loses
+  contest-free js e b r a₀ a p q l = rw p (rw q at l)
+
+-- ---- 10, or the contest
 
 module _ (visits : ℕ) (g : MempoolConfig) (t : Tables) (a : Submission) (c : ℕ) (ins outs : List ℕ) (fee : ℕ) (p : fee ≡ feeOf outs) where
   pub fee-refused : (e b : List ℕ) (d : Counts) (a₀ : List ℕ) → Left e b d t → fee < g .«min_fee»
@@ -146,10 +149,6 @@ module _ (visits : ℕ) (g : MempoolConfig) (t : Tables) (a : Submission) (c : �
     pub fee-contested : Leaves e b r a₀ a₁ (contested visits (g .capacity) x ins outs (conflicts (index false (t .boxes)) (idsOf 5 ins)) t) → Leaves e b r a₀ a₁ (admitSpec visits g t a c ins outs)
     unfolding admitSpec
     fee-contested l = rw (← p, le-ltb fee (g .«min_fee») h, ← k, ← q, ← o) l
-
-    pub fee-free : (l : List ℕ) → spent (index false (t .boxes)) (idsOf 5 ins) ≡ false → Leaves e b r a₀ a₁ (seated visits (g .capacity) x ins outs (idsTo 4 l 0) t) → Leaves e b r a₀ a₁ (admitSpec visits g t a c ins outs)
-    unfolding contested loses
-    fee-free l s w = fee-contested (rw (unspent (index false (t .boxes)) (idsOf 5 ins) s) (rw (of-none (ids 4) l) at w))
 
 -- the fee of outputs whose sum is in bounds
 pub fee-read : (outs : List ℕ) → feeOf outs ≤ cap → feeSum outs ≡ Sum (feeOf outs)

@@ -1,4 +1,4 @@
--- What the test of 29 goes by: whether a box is spent at all, one weight, the sum of weights id by id, and the test as the code makes it.
+-- What the test of 29 goes by: one weight, the sum of weights id by id, and the test as the code makes it.
 use Prim.Native.Nat.{ℕ, _+_, _*_, _^_, _≤_, _<_}
 use mathlib.Core.Path.{_≡_, refl, sym, ap, _∙_}
 use mathlib.Core.Bool.{Bool, true, false}
@@ -8,7 +8,7 @@ use native.Mathlib.Omega.{arith}
 use lib.Dec.{leb}
 use lib.ListN.{drop}
 use borrow.Author.Tests.{eq-eqb, ne-eqb}
-use Rattle.words.specs.Lists.{pick, flat}
+use Rattle.words.specs.Lists.{pick}
 use Rattle.words.specs.Tables.{drop-of, drop-past}
 use Rattle.words.specs.Ids.{idAt}
 use Rattle.words.specs.Sums.{cap, quotientOf}
@@ -18,46 +18,8 @@ use Rattle.entries.specs.Entries.{Entry, placeOf}
 use Rattle.entries.specs.Layout.{entryAt, entriesOf, entries}
 use Rattle.entries.specs.Laws.{at-place, no-place, place-fits}
 use Rattle.entries.specs.declared.table.Place.the-variants.{At, Nowhere}
-use Rattle.boxes.specs.Records.{Pair, lookup, conflicts}
 use Rattle.boxes.specs.Flat.{idsTo, ids}
 use Rattle.admit.specs.Admit.{weightOf, weightsOf, loses}
-
--- ---- whether one of these boxes is spent
-
-abbrev pub some : List ℕ → Bool
-some [] = false
-some (k ∷ ks) = true
-
-abbrev pub spent : List Pair → List ℕ → Bool
-spent ps [] = false
-spent ps (b ∷ bs) = pick (some (lookup ps b)) true (spent ps bs)
-
--- where none is, nobody is in conflict
-pub unspent : (ps : List Pair) (bs : List ℕ) → spent ps bs ≡ false → conflicts ps bs ≡ []
-unspent ps bs h = rw (go bs h)
-  where
-    nobody : (ks : List ℕ) {r : List ℕ} {t : Bool} → (t ≡ false → r ≡ []) → pick (some ks) true t ≡ false → ks ++ r ≡ []
-    nobody [] e q = e q
-    nobody (k ∷ ks) e q = let z : _≡_ {A = ℕ} 0 1 = cc in absurd (omega arith)
-
-    go : (bs : List ℕ) → spent ps bs ≡ false → flat (lookup ps) bs ≡ []
-    go [] h = refl
-    go (b ∷ bs) h = nobody (lookup ps b) (go bs) h
-
--- input by input: what is left to look at gives what all of them give
-module _ (ps : List Pair) (l : List ℕ) (n i : ℕ) where
-  spent-step : i < n → spent ps (drop i (idsTo 5 l n)) ≡ pick (some (lookup ps (idAt l (i * 5)))) true (spent ps (drop (i + 1) (idsTo 5 l n)))
-  spent-step h = rw (drop-of (ids 5) l n i h)
-
-  module _ (h : i < n) (k : ℕ) (e : k ≡ idAt l (i * 5)) where
-    pub spent-hit : some (lookup ps k) ≡ true → spent ps (drop i (idsTo 5 l n)) ≡ true
-    spent-hit t = spent-step h ∙ rw (← e, t)
-
-    pub spent-miss : some (lookup ps k) ≡ false → spent ps (drop i (idsTo 5 l n)) ≡ spent ps (drop (i + 1) (idsTo 5 l n))
-    spent-miss t = spent-step h ∙ rw (← e, t)
-
-  pub spent-end : n ≤ i → spent ps (drop i (idsTo 5 l n)) ≡ false
-  spent-end h = rw (drop-past (ids 5) l n i h)
 
 -- ---- one weight
 

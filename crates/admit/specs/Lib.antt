@@ -2,3 +2,4 @@ pub mod Admit
 pub mod Contests
 pub mod Evictions
 pub mod Admission
+pub mod Alone

@@ -1,9 +1,9 @@
 // A submission that passed its tests: refused with 10, 29 or 30, or pooled in the place of those that it drives out.
 use crate::contests::is_loser;
-use crate::contests::is_spent;
 use crate::evictions::Evicted;
 use crate::evictions::evict_to;
 use crate::evictions::is_crowded;
+use crate::evictions::lowest_or;
 use answers::write_ids;
 use arguments::FeeSum;
 use arguments::count_records;
@@ -12,8 +12,11 @@ use arguments::height_key;
 use entries::fields::PoolEntry;
 use entries::fields::ValidationCost;
 use family::propagate_family_weight;
+use indexes::conflicts::any_spent;
 use indexes::conflicts::conflicts;
+use indexes::quiet::scan;
 use pool::insert;
+use pool::insert_alone;
 use pool::remove_all;
 use pool_types::Counts;
 use pool_types::MempoolConfig;
@@ -21,12 +24,15 @@ use pool_types::ProcessingOutcome;
 use pool_types::Source;
 use pool_types::Submission;
 use weight::fee_per_factor;
+use words::ids::Id;
 use words::sums::saturating_add;
 ghost use mathlib.Core.Path.{_≡_};
 ghost use mathlib.Core.Bool.{false};
+ghost use mathlib.Core.List.{[]};
 ghost use Prim.Native.Nat.{_+_, _≤_};
 ghost use lib.Dec.{eqb};
 ghost use Rattle.words.specs.Lists.{pick};
+ghost use Rattle.words.specs.Ids.{idOf};
 ghost use Rattle.words.specs.Sums.{cap};
 ghost use Rattle.pool_types.specs.Outcomes.{processedOf, done, wrote};
 ghost use Rattle.arguments.specs.Arguments.{feeOf};
@@ -34,6 +40,7 @@ ghost use Rattle.entries.specs.Layout.{entryOf};
 ghost use Rattle.boxes.specs.Records.{index, conflicts};
 ghost use Rattle.boxes.specs.Layout.{boxesOf};
 ghost use Rattle.boxes.specs.Flat.{countOf, idsTo, idsOf};
+ghost use Rattle.indexes.specs.Quiet.{Quietly};
 ghost use Rattle.pool.specs.Pool.{Room, tablesOf};
 ghost use Rattle.admit.specs.Admit.{costOf, chargedSum, newcomer, joined, seated, contested, admitSpec};
 ghost use Rattle.admit.specs.Evictions.{Evicts};
@@ -109,7 +116,38 @@ fn enter(
     let base = e.base;
     let entered = insert(entries, boxes, counts, e, inputs, 5, outputs, 7);
     propagate_family_weight(entries, boxes, entered, id, base);
-    evict_to(entries, boxes, entered, capacity, answer, at, write)
+    evict_to(entries, boxes, entered, capacity, answer, at, write, id, 0)
+}
+
+// The same for one that stands alone: nothing is hidden for it, and it has no family to credit. `low` owns none of the first records.
+fn enter_alone(
+    entries: &mut [u64],
+    boxes: &mut [u64],
+    counts: Counts,
+    e: PoolEntry,
+    inputs: &[u64],
+    outputs: &[u64],
+    capacity: usize,
+    answer: &mut [u64],
+    low: Id,
+    first: usize,
+) -> Evicted
+    requires { ⌜ Room (now entries) (now boxes) counts (countOf 5 (now inputs) + countOf 7 (now outputs)) ⌝ }
+    requires { ⌜ Quietly (now boxes) (counts .records) first (idOf (e .id)) (idOf low) (idsOf 5 (now inputs)) (idsOf 7 (now outputs)) ⌝ }
+    ensures { λ r. ⌜ Evicts capacity 0 false (joined 500 (entryOf e) (now (inputs .entry)) (now (outputs .entry)) (tablesOf (now (entries .entry)) (now (boxes .entry)) counts)) (now (entries .exit)) (now (boxes .exit)) r (now (answer .entry)) (now (answer .exit)) ⌝ }
+{
+    let entered = insert_alone(entries, boxes, counts, e, inputs, 5, outputs, 7);
+    evict_to(
+        entries,
+        boxes,
+        entered,
+        capacity,
+        answer,
+        0,
+        false,
+        low,
+        first,
+    )
 }
 
 fn outcome_of(losers: usize, written: usize) -> ProcessingOutcome
@@ -165,6 +203,48 @@ fn seat(
     }
 }
 
+// 30, or a newcomer that stands alone takes its place.
+fn seat_alone(
+    entries: &mut [u64],
+    boxes: &mut [u64],
+    counts: Counts,
+    e: PoolEntry,
+    inputs: &[u64],
+    outputs: &[u64],
+    capacity: usize,
+    answer: &mut [u64],
+    low: Id,
+    first: usize,
+) -> Admission
+    requires { ⌜ Room (now entries) (now boxes) counts (countOf 5 (now inputs) + countOf 7 (now outputs)) ⌝ }
+    requires { ⌜ Quietly (now boxes) (counts .records) first (idOf (e .id)) (idOf low) (idsOf 5 (now inputs)) (idsOf 7 (now outputs)) ⌝ }
+    ensures { λ r. ⌜ Leaves (now (entries .exit)) (now (boxes .exit)) r (now (answer .entry)) (now (answer .exit)) (seated 500 capacity (entryOf e) (now (inputs .entry)) (now (outputs .entry)) [] (tablesOf (now (entries .entry)) (now (boxes .entry)) counts)) ⌝ }
+{
+    if is_crowded(entries, counts, capacity, e.base) {
+        return Admission {
+            counts,
+            outcome: ProcessingOutcome::Declined(30),
+        };
+    }
+    let left = enter_alone(
+        entries,
+        boxes,
+        counts,
+        e,
+        inputs,
+        outputs,
+        capacity,
+        answer,
+        low,
+        first,
+    );
+    let after = left.counts;
+    Admission {
+        counts: after,
+        outcome: ProcessingOutcome::Accepted,
+    }
+}
+
 // 29, or the transactions that spend one of the newcomer's boxes go.
 fn contest(
     entries: &mut [u64],
@@ -204,7 +284,57 @@ fn contest(
     )
 }
 
-// 10, or the newcomer that pays this fee contests its boxes. Most have none that is spent, and no list is cleared for them.
+// Whether the newcomer stands alone, or has nobody to contest with, is told in one scan each: most do, and no list is cleared for them.
+fn place(
+    entries: &mut [u64],
+    boxes: &mut [u64],
+    counts: Counts,
+    e: PoolEntry,
+    inputs: &[u64],
+    outputs: &[u64],
+    capacity: usize,
+    answer: &mut [u64],
+) -> Admission
+    requires { ⌜ Room (now entries) (now boxes) counts (countOf 5 (now inputs) + countOf 7 (now outputs)) ⌝ }
+    requires { ⌜ countOf 5 (now inputs) ≤ 5000 ⌝ }
+    ensures { λ r. ⌜ Leaves (now (entries .exit)) (now (boxes .exit)) r (now (answer .entry)) (now (answer .exit)) (contested 500 capacity (entryOf e) (now (inputs .entry)) (now (outputs .entry)) (conflicts (index false (boxesOf (now (boxes .entry)) (counts .records))) (idsOf 5 (now (inputs .entry)))) (tablesOf (now (entries .entry)) (now (boxes .entry)) counts)) ⌝ }
+{
+    let id = e.id;
+    let low = lowest_or(entries, counts, id);
+    let q = scan(boxes, counts.records, id, low, inputs, 5, outputs, 7);
+    if q.yes {
+        return seat_alone(
+            entries,
+            boxes,
+            counts,
+            e,
+            inputs,
+            outputs,
+            capacity,
+            answer,
+            low,
+            q.first,
+        );
+    }
+    if any_spent(boxes, counts.records, inputs, 5) {
+        return contest(entries, boxes, counts, e, inputs, outputs, capacity, answer);
+    }
+    let nobody = [0u64; 4];
+    seat(
+        entries,
+        boxes,
+        counts,
+        e,
+        inputs,
+        outputs,
+        capacity,
+        &nobody,
+        0,
+        answer,
+    )
+}
+
+// 10, or the newcomer that pays this fee takes a place.
 fn offer(
     entries: &mut [u64],
     boxes: &mut [u64],
@@ -230,20 +360,7 @@ fn offer(
     let strategy = config.fee_strategy;
     let base = fee_per_factor(fee, sub.size, cost_of(cost, sub.size), strategy);
     let e = newcomer(sub, cost, base, inputs, outputs);
-    if is_spent(boxes, counts.records, inputs) {
-        return contest(
-            entries,
-            boxes,
-            counts,
-            e,
-            inputs,
-            outputs,
-            config.capacity,
-            answer,
-        );
-    }
-    let nobody = [0u64; 4];
-    seat(
+    place(
         entries,
         boxes,
         counts,
@@ -251,8 +368,6 @@ fn offer(
         inputs,
         outputs,
         config.capacity,
-        &nobody,
-        0,
         answer,
     )
 }

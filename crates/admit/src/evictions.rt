@@ -1,6 +1,6 @@
 // Refusal 30, and the eviction of the lowest until the capacity is met.
 use answers::write_id;
-use pool::evict_lowest;
+use pool::evict_low;
 use pool::lowest_id;
 use pool::lowest_weight;
 use pool_types::Counts;
@@ -11,6 +11,7 @@ ghost use Prim.Native.Nat.{_≤_};
 ghost use Rattle.words.specs.Lists.{pick};
 ghost use Rattle.words.specs.Ids.{idOf};
 ghost use Rattle.entries.specs.Layout.{EntriesOk, entriesOf};
+ghost use Rattle.boxes.specs.Clear.{Clear};
 ghost use Rattle.pool.specs.Pool.{PoolFits, tablesOf};
 ghost use Rattle.answers.specs.Answers.{Wrote};
 ghost use Rattle.admit.specs.Admit.{crowded};
@@ -45,7 +46,18 @@ fn note_id(answer: &mut [u64], k: usize, id: Id, write: bool)
     }
 }
 
-// Takes out the lowest until at most `capacity` are left. Their ids are written from place `at` on, or not at all.
+// The lowest, which an eviction takes first; where there is none any id serves.
+pub fn lowest_or(entries: &[u64], counts: Counts, id: Id) -> Id
+    requires { ⌜ EntriesOk (now entries) (counts .pooled) ⌝ }
+{
+    if counts.pooled == 0 {
+        return id;
+    }
+    lowest_id(entries, counts)
+}
+
+// Takes out the lowest until at most `capacity` are left. Their ids are written from place `at` on, or not at all. It is known that `low` owns
+// none of the first records: as long as nothing was taken out these are not read for it.
 pub fn evict_to(
     entries: &mut [u64],
     boxes: &mut [u64],
@@ -54,16 +66,21 @@ pub fn evict_to(
     answer: &mut [u64],
     at: usize,
     write: bool,
+    low: Id,
+    first: usize,
 ) -> Evicted
     requires { ⌜ PoolFits (now entries) (now boxes) counts ⌝ }
     requires { ⌜ at ≤ 5000 ⌝ }
+    requires { ⌜ (first ≤ counts .records) × Clear (now boxes) (idOf low) first ⌝ }
     ensures { λ r. ⌜ Evicts capacity at write (tablesOf (now (entries .entry)) (now (boxes .entry)) counts) (now (entries .exit)) (now (boxes .exit)) r (now (answer .entry)) (now (answer .exit)) ⌝ }
 {
     let mut left = counts;
     let mut n = 0;
+    let mut from = first;
     while capacity < left.pooled {
         note_id(answer, at + n, lowest_id(entries, left), write);
-        left = evict_lowest(entries, boxes, left);
+        left = evict_low(entries, boxes, left, low, from);
+        from = 0;
         n += 1;
     }
     Evicted { counts: left, n }

@@ -12,14 +12,15 @@ use Rattle.pool_types.specs.declared.Counts.{Counts}
 use Rattle.entries.specs.Entries.{credit}
 use Rattle.entries.specs.Layout.{EntriesOk, entriesOf}
 use Rattle.entries.specs.Layout.{Left as Rows}
-use Rattle.boxes.specs.Records.{BoxRec, index, lookup}
+use Rattle.boxes.specs.Records.{BoxRec, index, lookup, parents}
 use Rattle.boxes.specs.Layout.{boxesOf, boxes}
 use Rattle.indexes.specs.Parents.{linksOf, lastParent, lookup-one, last-none, last-push}
 use Rattle.indexes.specs.declared.inputs.Parent.{Parent}
 use Rattle.indexes.specs.declared.inputs.Parent.the-variants.{Of, NoParent}
-use Rattle.pool.specs.Pool.{PoolFits, Left, tablesOf}
+use Rattle.pool.specs.Pool.{PoolFits, Left, Tables, tablesOf, credits}
 use Rattle.family.specs.Frames.{Todo, todoOf, frameAt, framesOf, frames, FramesOk, ok-fewer, ok-still}
-use Rattle.family.specs.Turns.{todo, whole, rest, rest-all, rest-none, rest-pop, rest-visit}
+use Rattle.family.specs.Walk.{visits}
+use Rattle.family.specs.Turns.{visits-none, todo, whole, rest, rest-all, rest-none, rest-pop, rest-visit}
 use Rattle.family.specs.Family.{propagated}
 use Rattle.family.specs.declared.Progress.{Progress}
 use Rattle.family.specs.declared.frames.Frame.{Frame}
@@ -133,3 +134,10 @@ walked-whole e e' b fs fs₀ fs' x k m c w f s h g =
 
     first : framesOf fs₀ 1 ≡ whole rs (idOf k) ∷ []
     first = put-end frames fs fs₀ 0 _ s ∙ rw (of-none frames fs, opened rs k (x .records) (sym (boxes .len b (x .records))))
+
+-- one that has no parent credits nobody
+pub propagated-none : (m c k : ℕ) (t : Tables) → parents (t .boxes) k ≡ [] → propagated m c k t ≡ t
+propagated-none m c k t h = λ i. record { entries = ap (λ (ks : List ℕ). credits c ks (t .entries)) none i; boxes = t .boxes }
+  where
+    none : visits m (parents (t .boxes)) (reverseAux (parents (t .boxes) k) []) ≡ []
+    none = ap (λ (ks : List ℕ). visits m (parents (t .boxes)) (reverseAux ks [])) h ∙ visits-none (parents (t .boxes)) m

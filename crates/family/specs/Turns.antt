@@ -32,7 +32,7 @@ pending rs (t ∷ ts) st = pending rs ts (reverseAux (todo rs t) st)
 abbrev pub rest : List BoxRec → ℕ → ℕ → List Todo → List Entry → List Entry
 rest rs c b ts es = credits c (visits b (parents rs) (pending rs ts [])) es
 
-visits-none : (f : ℕ → List ℕ) (b : ℕ) → visits b f [] ≡ []
+pub visits-none : (f : ℕ → List ℕ) (b : ℕ) → visits b f [] ≡ []
 visits-none f zero = refl
 visits-none f (suc b) = refl
 

@@ -89,7 +89,7 @@ fn any_marked(s: &[u64], used: usize, marks: &[u64], inputs: &[u64], width: usiz
 }
 
 // Whether one of these boxes has a spender: one scan for all of them.
-fn any_spent(s: &[u64], used: usize, inputs: &[u64], width: usize) -> bool
+pub fn any_spent(s: &[u64], used: usize, inputs: &[u64], width: usize) -> bool
     requires { ⌜ BoxesOk (now s) used ⌝ }
     requires { ⌜ 4 ≤ width ⌝ }
     ensures { λ r. ⌜ r ≡ anySpent (idsOf width (now (inputs .entry))) (boxesOf (now (s .entry)) used) ⌝ }

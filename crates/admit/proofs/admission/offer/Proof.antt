@@ -1,7 +1,7 @@
--- `admission::offer` meets its contract: 10 (`fee-refused`), the contest (`fee-contested`), or nobody to contest with (`fee-free`). Assumes nothing.
+-- `admission::offer` meets its contract: 10 (`fee-refused`), or the newcomer takes a place (`fee-contested`). Assumes nothing.
 use borrow.Author.Needs.{needs}
-use mathlib.Core.Path.{refl, sym, _∙_}
-use Rattle.admit.specs.Admission.{room-fits, fee-refused, fee-contested, fee-free}
+use mathlib.Core.Path.{refl}
+use Rattle.admit.specs.Admission.{room-fits, fee-refused, fee-contested}
 use Rattle.admit.proofs.admission.offer.Statement.{statement}
 use Rattle.admit.proofs.admission.offer.Tie as tie
 
@@ -17,11 +17,8 @@ fee-per-factor-requires c κs = search needs
 newcomer-requires : tie.Need-newcomer-requires
 newcomer-requires c κs = search needs
 
-is-spent-requires : tie.Need-is-spent-requires
-is-spent-requires c κs = room-fits _ _ _ _ (c .before .before .before .before .before .before .before .before .before .before .before .pre .0) .boxes
-
-contest-requires : tie.Need-contest-requires
-contest-requires c κs = (c .before .before .before .before .before .before .before .before .before .before .before .before .before .before .before .before .pre .0, c .before .before .before .before .before .before .before .before .before .before .before .before .before .before .before .before .pre .1 .0)
+place-requires : tie.Need-place-requires
+place-requires c κs = (c .before .before .before .before .before .before .before .before .before .before .before .before .before .pre .0, c .before .before .before .before .before .before .before .before .before .before .before .before .before .pre .1 .0)
 
 same-length : tie.Need-same-length
 same-length c = search needs
@@ -33,43 +30,7 @@ same-length-3 : tie.Need-same-length-3
 same-length-3 c = search needs
 
 returns-2 : tie.Need-returns-2
-returns-2 c = fee-contested _ _ _ _ _ _ _ _ (c .before .before .before .before .before .before .before .before .before .before .before .before .before .before .before .before .before .before .before .before .before .before .before .pre .1 .1) _ _ _ _ _ (c .before .before .before .before .before .before .before .before .before .before .before .before .before .before .before .before .if1 .left) _ _ _ (c .before .before .before .before .before .before .before .before .before .before .before .before .before .before .before .cost-of .ensures) (c .before .before .before .before .before .before .before .before .before .before .before .before .before .before .fee-per-factor .ensures) (c .before .before .before .before .before .before .before .before .before .before .before .before .before .newcomer .ensures) (c .before .before .before .before .before .before .contest .ensures)
-
-slice-aggregate-seat : tie.Need-slice-aggregate-seat
-slice-aggregate-seat c = search needs
-
-seat-requires : tie.Need-seat-requires
-seat-requires c κs = search needs
-
-same-length-4 : tie.Need-same-length-4
-same-length-4 c = search needs
-
-same-length-5 : tie.Need-same-length-5
-same-length-5 c = search needs
-
-same-length-6 : tie.Need-same-length-6
-same-length-6 c = search needs
-
-returns-3 : tie.Need-returns-3
-returns-3 c = fee-free _ _ _ _ _ _ _ _ (c .before .before .before .before .before .before .before .before .before .before .before .before .before .before .before .before .before .before .before .before .before .before .before .before .pre .1 .1) _ _ _ _ _ (c .before .before .before .before .before .before .before .before .before .before .before .before .before .before .before .before .before .if1 .left) _ _ _ (c .before .before .before .before .before .before .before .before .before .before .before .before .before .before .before .before .cost-of .ensures) (c .before .before .before .before .before .before .before .before .before .before .before .before .before .before .before .fee-per-factor .ensures) (c .before .before .before .before .before .before .before .before .before .before .before .before .before .before .newcomer .ensures) _ (sym (c .before .before .before .before .before .before .before .before .before .before .before .before .is-spent .ensures) ∙ c .before .before .before .before .before .before .before .before .before .before .before .if2 .left) (c .before .before .before .before .before .before .seat .ensures)
+returns-2 c = fee-contested _ _ _ _ _ _ _ _ (c .before .before .before .before .before .before .before .before .before .before .before .before .before .before .before .before .before .before .before .before .pre .1 .1) _ _ _ _ _ (c .before .before .before .before .before .before .before .before .before .before .before .before .before .if1 .left) _ _ _ (c .before .before .before .before .before .before .before .before .before .before .before .before .cost-of .ensures) (c .before .before .before .before .before .before .before .before .before .before .before .fee-per-factor .ensures) (c .before .before .before .before .before .before .before .before .before .before .newcomer .ensures) (c .before .before .before .before .before .before .place .ensures)
 
 pub offer-spec : {M : Type 1} → statement M
-offer-spec =
-    tie.close
-    (tie.spec
-    returns
-    cost-of-requires
-    fee-per-factor-requires
-    newcomer-requires
-    is-spent-requires
-    contest-requires
-    same-length
-    same-length-2
-    same-length-3
-    returns-2
-    slice-aggregate-seat
-    seat-requires
-    same-length-4
-    same-length-5
-    same-length-6
-    returns-3)
+offer-spec = tie.close (tie.spec returns cost-of-requires fee-per-factor-requires newcomer-requires place-requires same-length same-length-2 same-length-3 returns-2)
