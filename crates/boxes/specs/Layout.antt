@@ -13,7 +13,8 @@ use lib.Dec.{eqb}
 use Rattle.words.specs.Lists.{pick}
 use Rattle.words.specs.Rows.{stored, stored-append, blk-lit, recAt, recs, length-recs, getD-recs, take-recs, recs-store, recs-append, recs-take, recs-front}
 use Rattle.words.specs.Tables.{Table}
-use Rattle.words.specs.Ids.{idOf, idAt, idWords}
+use borrow.Author.Tests.{ne-eqb}
+use Rattle.words.specs.Ids.{idOf, idAt, idWords, wordsAt, Words, id-inj}
 use Rattle.words.specs.declared.ids.Id.{Id}
 use Rattle.boxes.specs.Records.{BoxRec}
 use Rattle.boxes.specs.Among.{among}
@@ -75,6 +76,14 @@ module _ (l : List ℕ) (i : ℕ) where
   pub live-at : isSet (getD l (i * 10 + 9) 0) ≡ boxAt l i .live
   unfolding boxAt recAt boxDec
   live-at = simp (blk-lit 10 l i, tt {0})
+
+-- ids whose first words differ are different
+pub first-differs : (l : List ℕ) (i : ℕ) (x : Id) → Words (wordsAt l (i * 10 + 4)) → Words x → (getD l (i * 10 + 4) 0 ≡ x .a → ⊥) → eqb (boxAt l i .owner) (idOf x) ≡ false
+unfolding idOf idAt
+first-differs l i x v w n = ne-eqb _ _ (λ e. n (id-inj (wordsAt l (i * 10 + 4)) x v w (same ∙ e) .0))
+  where
+    same : idOf (wordsAt l (i * 10 + 4)) ≡ boxAt l i .owner
+    same = owner-at l i
 
 -- ---- what it writes
 

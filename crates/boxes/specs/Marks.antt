@@ -1,4 +1,4 @@
--- Marks: one word for each remainder of an id by 256. An id that is not marked stands in no list that was marked.
+-- Marks: one byte for each remainder of an id by 2048. An id that is not marked stands in no list that was marked.
 use Prim.Native.Nat.{ℕ, _+_, _*_, _%_, _≤_, _<_}
 use mathlib.Core.Path.{_≡_, refl, sym, ap, _∙_}
 use mathlib.Core.Bool.{Bool, true, false, not, _&&_, and-false}
@@ -18,7 +18,7 @@ use Rattle.boxes.specs.Entering.{overtakenBy}
 use Rattle.boxes.specs.Flat.{countOf, idsTo, idsOf, ids}
 
 unfoldable pub isMarked : List ℕ → ℕ → Bool
-isMarked m k = not (eqb (getD m (k % 256) 0) 0)
+isMarked m k = not (eqb (getD m (k % 2048) 0) 0)
 
 -- the ids of a list were marked: one that is not marked after was not before, and is not in the list
 pub record Marking (m m' : List ℕ) (ks : List ℕ) : Type 0 where
@@ -38,25 +38,25 @@ marked-one m₀ m ins a = record { no-input = a .new; no-output = λ k h. refl }
 
 -- ---- the remainder of an id is that of its last word
 
-pub last-word : (x : Id) → x .d % 256 ≡ idOf x % 256
+pub last-word : (x : Id) → x .d % 2048 ≡ idOf x % 2048
 unfolding idOf
 last-word x = omega (arith, join-is (join (join (x .a) (x .b)) (x .c)) (x .d))
 
 -- ---- one id
 
-module _ (m : List ℕ) (x p : ℕ) (e : p ≡ x % 256) (b : p < length m) where
+module _ (m : List ℕ) (x p : ℕ) (e : p ≡ x % 2048) (b : p < length m) where
   -- one that is not marked after is no id of this remainder
-  other : (k : ℕ) → isMarked (set m p 1) k ≡ false → (k % 256 ≡ p → ⊥)
+  other : (k : ℕ) → isMarked (set m p 1) k ≡ false → (k % 2048 ≡ p → ⊥)
   unfolding isMarked
   other k h q =
-      let one : getD (set m p 1) (k % 256) 0 ≡ 1 = rw q (getD-set-same m p 1 0 b) in
+      let one : getD (set m p 1) (k % 2048) 0 ≡ 1 = rw q (getD-set-same m p 1 0 b) in
       let z : true ≡ false = ap (λ (w : ℕ). not (eqb w 0)) (sym one) ∙ h in
       let y : _≡_ {A = ℕ} 0 1 = cc z in
       omega arith
 
   still : (k : ℕ) → isMarked (set m p 1) k ≡ false → isMarked m k ≡ false
   unfolding isMarked
-  still k h = ap (λ (w : ℕ). not (eqb w 0)) (sym (getD-set-other m p (k % 256) 1 0 (other k h))) ∙ h
+  still k h = ap (λ (w : ℕ). not (eqb w 0)) (sym (getD-set-other m p (k % 2048) 1 0 (other k h))) ∙ h
 
   pub mark-id : Marking m (set m p 1) (x ∷ [])
   mark-id = record { before = still; new = λ k h. rw (ne-eqb x k (λ q. other k h (rw (← q) (sym e)))) }

@@ -1,4 +1,4 @@
-// Marks: a word for each remainder of an id by 256, not 0 where an id of a list has that remainder. A scan for the ids of a list skips
+// Marks: a byte for each remainder of an id by 2048, not 0 where an id of a list has that remainder. A scan for the ids of a list skips
 // a record that has no mark after one look, however long the list is.
 use crate::lists::count_of;
 use crate::lists::id_at;
@@ -11,16 +11,16 @@ ghost use Rattle.words.specs.Ids.{idOf};
 ghost use Rattle.boxes.specs.Flat.{idsOf};
 ghost use Rattle.boxes.specs.Marks.{isMarked, Marking};
 
-pub const MARKS: usize = 256;
+pub const MARKS: usize = 2048;
 
 fn mark_of(id: Id) -> usize
-    ensures { λ r. ⌜ r ≡ idOf id % 256 ⌝ }
+    ensures { λ r. ⌜ r ≡ idOf id % 2048 ⌝ }
 {
-    (id.d % 256) as usize
+    (id.d % 2048) as usize
 }
 
-pub fn mark_id(marks: &mut [u64], id: Id)
-    requires { ⌜ 256 ≤ length (now marks) ⌝ }
+pub fn mark_id(marks: &mut [u8], id: Id)
+    requires { ⌜ 2048 ≤ length (now marks) ⌝ }
     ensures { λ _. ⌜ Marking (now (marks .entry)) (now (marks .exit)) (idOf id ∷ []) ⌝ }
 {
     let at = mark_of(id);
@@ -28,8 +28,8 @@ pub fn mark_id(marks: &mut [u64], id: Id)
 }
 
 // Marks each id of a list.
-pub fn mark_list(marks: &mut [u64], list: &[u64], width: usize)
-    requires { ⌜ 256 ≤ length (now marks) ⌝ }
+pub fn mark_list(marks: &mut [u8], list: &[u64], width: usize)
+    requires { ⌜ 2048 ≤ length (now marks) ⌝ }
     requires { ⌜ 4 ≤ width ⌝ }
     ensures { λ _. ⌜ Marking (now (marks .entry)) (now (marks .exit)) (idsOf width (now (list .entry))) ⌝ }
 {
@@ -41,8 +41,8 @@ pub fn mark_list(marks: &mut [u64], list: &[u64], width: usize)
     }
 }
 
-pub fn is_marked(marks: &[u64], id: Id) -> bool
-    requires { ⌜ 256 ≤ length (now marks) ⌝ }
+pub fn is_marked(marks: &[u8], id: Id) -> bool
+    requires { ⌜ 2048 ≤ length (now marks) ⌝ }
     ensures { λ r. ⌜ r ≡ isMarked (now (marks .entry)) (idOf id) ⌝ }
 {
     let at = mark_of(id);

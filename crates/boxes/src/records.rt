@@ -10,12 +10,11 @@ use crate::rows::BoxRow;
 use crate::rows::box_key;
 use crate::rows::box_live;
 use crate::rows::box_out;
-use crate::rows::box_owner;
 use crate::rows::hide_box;
+use crate::rows::is_owner;
 use crate::rows::move_box;
 use crate::rows::store_box;
 use words::ids::Id;
-use words::ids::same_id;
 ghost use mathlib.Core.Path.{_≡_};
 ghost use mathlib.Core.Bool.{true, false};
 ghost use mathlib.Core.List.{map, _++_};
@@ -38,7 +37,7 @@ fn first_owned(s: &[u64], used: usize, owner: Id) -> usize
 {
     let mut i = 0;
     while i < used {
-        if same_id(box_owner(s, i), owner) {
+        if is_owner(s, i, owner) {
             return i;
         }
         i += 1;
@@ -56,7 +55,7 @@ pub fn drop_from(s: &mut [u64], used: usize, owner: Id, from: usize) -> usize
     let mut w = from;
     let mut r = from;
     while r < used {
-        if same_id(box_owner(s, r), owner) {
+        if is_owner(s, r, owner) {
             r += 1;
         } else {
             move_box(s, r, w);
@@ -83,7 +82,7 @@ pub fn drop_owner(s: &mut [u64], used: usize, owner: Id) -> usize
 fn overtaken(
     s: &[u64],
     at: usize,
-    marks: &[u64],
+    marks: &[u8],
     inputs: &[u64],
     in_width: usize,
     outputs: &[u64],
@@ -91,7 +90,7 @@ fn overtaken(
 ) -> bool
     requires { ⌜ BoxesOk (now s) (at + 1) ⌝ }
     requires { ⌜ (4 ≤ «in_width») × (4 ≤ «out_width») ⌝ }
-    requires { ⌜ (256 ≤ length (now marks)) × Marked (now marks) (idsOf «in_width» (now inputs)) (idsOf «out_width» (now outputs)) ⌝ }
+    requires { ⌜ (2048 ≤ length (now marks)) × Marked (now marks) (idsOf «in_width» (now inputs)) (idsOf «out_width» (now outputs)) ⌝ }
     ensures { λ r. ⌜ r ≡ overtakenBy (idsOf «in_width» (now (inputs .entry))) (idsOf «out_width» (now (outputs .entry))) (boxAt (now (s .entry)) at) ⌝ }
 {
     if !is_marked(marks, box_key(s, at)) {
@@ -112,7 +111,7 @@ fn overtaken(
 fn hide_one(
     s: &mut [u64],
     at: usize,
-    marks: &[u64],
+    marks: &[u8],
     inputs: &[u64],
     in_width: usize,
     outputs: &[u64],
@@ -120,7 +119,7 @@ fn hide_one(
 )
     requires { ⌜ BoxesOk (now s) (at + 1) ⌝ }
     requires { ⌜ (4 ≤ «in_width») × (4 ≤ «out_width») ⌝ }
-    requires { ⌜ (256 ≤ length (now marks)) × Marked (now marks) (idsOf «in_width» (now inputs)) (idsOf «out_width» (now outputs)) ⌝ }
+    requires { ⌜ (2048 ≤ length (now marks)) × Marked (now marks) (idsOf «in_width» (now inputs)) (idsOf «out_width» (now outputs)) ⌝ }
     ensures { λ _. ⌜ ((m : ℕ) → boxesOf (now (s .exit)) m ≡ set (boxesOf (now (s .entry)) m) at (hideTx (idsOf «in_width» (now (inputs .entry))) (idsOf «out_width» (now (outputs .entry))) (boxAt (now (s .entry)) at))) ⌝ }
 {
     if overtaken(s, at, marks, inputs, in_width, outputs, out_width) {
@@ -132,7 +131,7 @@ fn hide_one(
 fn hide_marked(
     s: &mut [u64],
     used: usize,
-    marks: &[u64],
+    marks: &[u8],
     inputs: &[u64],
     in_width: usize,
     outputs: &[u64],
@@ -140,7 +139,7 @@ fn hide_marked(
 )
     requires { ⌜ BoxesOk (now s) used ⌝ }
     requires { ⌜ (4 ≤ «in_width») × (4 ≤ «out_width») ⌝ }
-    requires { ⌜ (256 ≤ length (now marks)) × Marked (now marks) (idsOf «in_width» (now inputs)) (idsOf «out_width» (now outputs)) ⌝ }
+    requires { ⌜ (2048 ≤ length (now marks)) × Marked (now marks) (idsOf «in_width» (now inputs)) (idsOf «out_width» (now outputs)) ⌝ }
     ensures { λ _. ⌜ boxesOf (now (s .exit)) used ≡ map (hideTx (idsOf «in_width» (now (inputs .entry))) (idsOf «out_width» (now (outputs .entry)))) (boxesOf (now (s .entry)) used) ⌝ }
 {
     let mut i = 0;
@@ -163,7 +162,7 @@ fn hide_older(
     requires { ⌜ (4 ≤ «in_width») × (4 ≤ «out_width») ⌝ }
     ensures { λ _. ⌜ boxesOf (now (s .exit)) used ≡ map (hideTx (idsOf «in_width» (now (inputs .entry))) (idsOf «out_width» (now (outputs .entry)))) (boxesOf (now (s .entry)) used) ⌝ }
 {
-    let mut marks = [0u64; MARKS];
+    let mut marks = [0u8; MARKS];
     mark_list(&mut marks, inputs, in_width);
     mark_list(&mut marks, outputs, out_width);
     hide_marked(s, used, &marks, inputs, in_width, outputs, out_width);

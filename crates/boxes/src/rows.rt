@@ -3,8 +3,10 @@
 use words::ids::Id;
 use words::ids::load_id;
 use words::ids::put_id;
+use words::ids::same_id;
 ghost use mathlib.Core.Path.{_≡_};
 ghost use Prim.Native.Nat.{ℕ, _+_, _≤_};
+ghost use lib.Dec.{eqb};
 ghost use lib.ListN.{length, set};
 ghost use Rattle.words.specs.Lists.{pick};
 ghost use Rattle.words.specs.Ids.{idOf};
@@ -40,6 +42,17 @@ pub fn box_owner(s: &[u64], at: usize) -> Id
     ensures { λ r. ⌜ idOf r ≡ boxAt (now (s .entry)) at .owner ⌝ }
 {
     load_id(s, at * 10 + 4)
+}
+
+// Whether a transaction owns it. The first word is looked at alone: ids differ there most.
+pub fn is_owner(s: &[u64], at: usize, owner: Id) -> bool
+    requires { ⌜ BoxesOk (now s) (at + 1) ⌝ }
+    ensures { λ r. ⌜ r ≡ eqb (boxAt (now (s .entry)) at .owner) (idOf owner) ⌝ }
+{
+    if s[at * 10 + 4] != owner.a {
+        return false;
+    }
+    same_id(box_owner(s, at), owner)
 }
 
 // Whether it is an output of its owner.

@@ -36,11 +36,11 @@ never e = absurd (let y : _≡_ {A = ℕ} 0 1 = cc e in omega arith)
 -- ---- marking them
 
 pub record MarkedFrom (m l : List ℕ) (n k from i : ℕ) : Type 0 where
-  pub size : 256 ≤ length m
+  pub size : 2048 ≤ length m
   pub rest : (b : ℕ) → isMarked m b ≡ false → among b (inputsOf k (drop i (boxesOf l n))) ≡ false → among b (lastInputs l n k from) ≡ false
 
 module _ (l : List ℕ) (n k from : ℕ) where
-  pub from-none : (m : List ℕ) → 256 ≤ length m → MarkedFrom m l n k from from
+  pub from-none : (m : List ℕ) → 2048 ≤ length m → MarkedFrom m l n k from from
   from-none m h = record { size = h; rest = λ b q z. z }
 
   pub from-yes : (m m' : List ℕ) (i x : ℕ) → i < n → isInput k (boxAt l i) ≡ true → x ≡ boxAt l i .box → length m' ≡ length m → Marking m m' (x ∷ []) → MarkedFrom m l n k from i → MarkedFrom m' l n k from (i + 1)

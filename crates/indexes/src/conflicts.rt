@@ -53,10 +53,10 @@ fn add_conflict(s: &[u64], used: usize, key: Id, list: &mut [u64], n: usize) -> 
 }
 
 // Whether the record at index `at` is the spender index's entry for one of these boxes. Most records have no mark and are of no further interest.
-fn spends_one(s: &[u64], at: usize, marks: &[u64], inputs: &[u64], width: usize) -> bool
+fn spends_one(s: &[u64], at: usize, marks: &[u8], inputs: &[u64], width: usize) -> bool
     requires { ⌜ BoxesOk (now s) (at + 1) ⌝ }
     requires { ⌜ 4 ≤ width ⌝ }
-    requires { ⌜ (256 ≤ length (now marks)) × Marked (now marks) (idsOf width (now inputs)) [] ⌝ }
+    requires { ⌜ (2048 ≤ length (now marks)) × Marked (now marks) (idsOf width (now inputs)) [] ⌝ }
     ensures { λ r. ⌜ r ≡ overtakenBy (idsOf width (now (inputs .entry))) [] (boxAt (now (s .entry)) at) ⌝ }
 {
     if !is_marked(marks, box_key(s, at)) {
@@ -72,10 +72,10 @@ fn spends_one(s: &[u64], at: usize, marks: &[u64], inputs: &[u64], width: usize)
     }
 }
 
-fn any_marked(s: &[u64], used: usize, marks: &[u64], inputs: &[u64], width: usize) -> bool
+fn any_marked(s: &[u64], used: usize, marks: &[u8], inputs: &[u64], width: usize) -> bool
     requires { ⌜ BoxesOk (now s) used ⌝ }
     requires { ⌜ 4 ≤ width ⌝ }
-    requires { ⌜ (256 ≤ length (now marks)) × Marked (now marks) (idsOf width (now inputs)) [] ⌝ }
+    requires { ⌜ (2048 ≤ length (now marks)) × Marked (now marks) (idsOf width (now inputs)) [] ⌝ }
     ensures { λ r. ⌜ r ≡ anySpent (idsOf width (now (inputs .entry))) (boxesOf (now (s .entry)) used) ⌝ }
 {
     let mut i = 0;
@@ -94,7 +94,7 @@ pub fn any_spent(s: &[u64], used: usize, inputs: &[u64], width: usize) -> bool
     requires { ⌜ 4 ≤ width ⌝ }
     ensures { λ r. ⌜ r ≡ anySpent (idsOf width (now (inputs .entry))) (boxesOf (now (s .entry)) used) ⌝ }
 {
-    let mut marks = [0u64; MARKS];
+    let mut marks = [0u8; MARKS];
     mark_list(&mut marks, inputs, width);
     any_marked(s, used, &marks, inputs, width)
 }

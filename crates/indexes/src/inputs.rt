@@ -5,9 +5,8 @@ use crate::owners::producer;
 use boxes::lists::has;
 use boxes::rows::box_key;
 use boxes::rows::box_out;
-use boxes::rows::box_owner;
+use boxes::rows::is_owner;
 use words::ids::Id;
-use words::ids::same_id;
 ghost use mathlib.Core.Path.{_≡_};
 ghost use mathlib.Core.Bool.{true};
 ghost use Prim.Native.Nat.{_+_, min};
@@ -25,7 +24,7 @@ pub(crate) fn is_input(s: &[u64], at: usize, id: Id) -> bool
     requires { ⌜ BoxesOk (now s) (at + 1) ⌝ }
     ensures { λ r. ⌜ r ≡ isInput (idOf id) (boxAt (now (s .entry)) at) ⌝ }
 {
-    if same_id(box_owner(s, at), id) {
+    if is_owner(s, at, id) {
         !box_out(s, at)
     } else {
         false

@@ -41,9 +41,9 @@ fn block_start(s: &[u64], n: usize, id: Id) -> usize
 }
 
 // Marks the inputs of a transaction in the records from `from` on and before `to`.
-fn mark_inputs(s: &[u64], to: usize, id: Id, from: usize, marks: &mut [u64])
+fn mark_inputs(s: &[u64], to: usize, id: Id, from: usize, marks: &mut [u8])
     requires { ⌜ BoxesOk (now s) to ⌝ }
-    requires { ⌜ 256 ≤ length (now marks) ⌝ }
+    requires { ⌜ 2048 ≤ length (now marks) ⌝ }
     ensures { λ _. ⌜ Marked (now (marks .exit)) [] (inputsOf (idOf id) (drop from (boxesOf (now (s .entry)) to))) ⌝ }
 {
     let mut i = from;
@@ -77,9 +77,9 @@ fn is_listed(s: &[u64], to: usize, id: Id, from: usize, key: Id) -> bool
 }
 
 // Whether the record at index `at` produces one of these inputs.
-fn makes_one(s: &[u64], to: usize, id: Id, from: usize, marks: &[u64], at: usize) -> bool
+fn makes_one(s: &[u64], to: usize, id: Id, from: usize, marks: &[u8], at: usize) -> bool
     requires { ⌜ (BoxesOk (now s) to) × (BoxesOk (now s) (at + 1)) ⌝ }
-    requires { ⌜ (256 ≤ length (now marks)) × Marked (now marks) [] (inputsOf (idOf id) (drop from (boxesOf (now s) to))) ⌝ }
+    requires { ⌜ (2048 ≤ length (now marks)) × Marked (now marks) [] (inputsOf (idOf id) (drop from (boxesOf (now s) to))) ⌝ }
     ensures { λ r. ⌜ r ≡ overtakenBy [] (inputsOf (idOf id) (drop from (boxesOf (now (s .entry)) to))) (boxAt (now (s .entry)) at) ⌝ }
 {
     if !is_marked(marks, box_key(s, at)) {
@@ -96,9 +96,9 @@ fn makes_one(s: &[u64], to: usize, id: Id, from: usize, marks: &[u64], at: usize
 }
 
 // Whether the record at index `at` speaks against it: it produces one of these inputs, or is an earlier input.
-fn stirs(s: &[u64], to: usize, id: Id, from: usize, marks: &[u64], at: usize) -> bool
+fn stirs(s: &[u64], to: usize, id: Id, from: usize, marks: &[u8], at: usize) -> bool
     requires { ⌜ (BoxesOk (now s) to) × (BoxesOk (now s) (at + 1)) ⌝ }
-    requires { ⌜ (256 ≤ length (now marks)) × Marked (now marks) [] (inputsOf (idOf id) (drop from (boxesOf (now s) to))) ⌝ }
+    requires { ⌜ (2048 ≤ length (now marks)) × Marked (now marks) [] (inputsOf (idOf id) (drop from (boxesOf (now s) to))) ⌝ }
     ensures { λ r. ⌜ (r ≡ false → Still (now (s .entry)) to (idOf id) from at) ⌝ }
 {
     if makes_one(s, to, id, from, marks, at) {
@@ -112,9 +112,9 @@ fn stirs(s: &[u64], to: usize, id: Id, from: usize, marks: &[u64], at: usize) ->
 }
 
 // Whether no record does.
-fn all_still(s: &[u64], used: usize, to: usize, id: Id, from: usize, marks: &[u64]) -> bool
+fn all_still(s: &[u64], used: usize, to: usize, id: Id, from: usize, marks: &[u8]) -> bool
     requires { ⌜ (BoxesOk (now s) used) × (BoxesOk (now s) to) ⌝ }
-    requires { ⌜ (256 ≤ length (now marks)) × Marked (now marks) [] (inputsOf (idOf id) (drop from (boxesOf (now s) to))) ⌝ }
+    requires { ⌜ (2048 ≤ length (now marks)) × Marked (now marks) [] (inputsOf (idOf id) (drop from (boxesOf (now s) to))) ⌝ }
     ensures { λ r. ⌜ (r ≡ true → (j : ℕ) → j < used → Still (now (s .entry)) to (idOf id) from j) ⌝ }
 {
     let mut i = 0;
@@ -138,7 +138,7 @@ pub(crate) fn no_parent(s: &[u64], used: usize, id: Id, n: usize) -> bool
     if from == n {
         return false;
     }
-    let mut marks = [0u64; MARKS];
+    let mut marks = [0u8; MARKS];
     mark_inputs(s, n, id, from, &mut marks);
     all_still(s, used, n, id, from, &marks)
 }

@@ -7,9 +7,8 @@ use boxes::marks::MARKS;
 use boxes::marks::is_marked;
 use boxes::marks::mark_list;
 use boxes::rows::box_key;
-use boxes::rows::box_owner;
+use boxes::rows::is_owner;
 use words::ids::Id;
-use words::ids::same_id;
 ghost use mathlib.Core.Path.{_≡_};
 ghost use mathlib.Core.Bool.{true, false};
 ghost use Prim.Native.Nat.{ℕ, _+_, _≤_};
@@ -48,7 +47,7 @@ fn is_near(
     s: &[u64],
     at: usize,
     id: Id,
-    marks: &[u64],
+    marks: &[u8],
     inputs: &[u64],
     in_width: usize,
     outputs: &[u64],
@@ -56,10 +55,10 @@ fn is_near(
 ) -> bool
     requires { ⌜ BoxesOk (now s) (at + 1) ⌝ }
     requires { ⌜ (4 ≤ «in_width») × (4 ≤ «out_width») ⌝ }
-    requires { ⌜ (256 ≤ length (now marks)) × Marked (now marks) (idsOf «in_width» (now inputs)) (idsOf «out_width» (now outputs)) ⌝ }
+    requires { ⌜ (2048 ≤ length (now marks)) × Marked (now marks) (idsOf «in_width» (now inputs)) (idsOf «out_width» (now outputs)) ⌝ }
     ensures { λ r. ⌜ (r ≡ false → Apart (idOf id) (idsOf «in_width» (now (inputs .entry))) (idsOf «out_width» (now (outputs .entry))) (boxAt (now (s .entry)) at)) ⌝ }
 {
-    if same_id(box_owner(s, at), id) {
+    if is_owner(s, at, id) {
         return true;
     }
     if !is_marked(marks, box_key(s, at)) {
@@ -78,7 +77,7 @@ fn first_near(
     from: usize,
     id: Id,
     low: Id,
-    marks: &[u64],
+    marks: &[u8],
     inputs: &[u64],
     in_width: usize,
     outputs: &[u64],
@@ -86,12 +85,12 @@ fn first_near(
 ) -> usize
     requires { ⌜ (BoxesOk (now s) used) × (from ≤ used) ⌝ }
     requires { ⌜ (4 ≤ «in_width») × (4 ≤ «out_width») ⌝ }
-    requires { ⌜ (256 ≤ length (now marks)) × Marked (now marks) (idsOf «in_width» (now inputs)) (idsOf «out_width» (now outputs)) ⌝ }
+    requires { ⌜ (2048 ≤ length (now marks)) × Marked (now marks) (idsOf «in_width» (now inputs)) (idsOf «out_width» (now outputs)) ⌝ }
     ensures { λ r. ⌜ Run (now (s .entry)) used from r (idOf id) (idOf low) (idsOf «in_width» (now (inputs .entry))) (idsOf «out_width» (now (outputs .entry))) ⌝ }
 {
     let mut i = from;
     while i < used {
-        if same_id(box_owner(s, i), low) {
+        if is_owner(s, i, low) {
             return i;
         }
         if is_near(s, i, id, marks, inputs, in_width, outputs, out_width) {
@@ -108,7 +107,7 @@ fn scan_marked(
     used: usize,
     id: Id,
     low: Id,
-    marks: &[u64],
+    marks: &[u8],
     inputs: &[u64],
     in_width: usize,
     outputs: &[u64],
@@ -116,7 +115,7 @@ fn scan_marked(
 ) -> Quiet
     requires { ⌜ BoxesOk (now s) used ⌝ }
     requires { ⌜ (4 ≤ «in_width») × (4 ≤ «out_width») ⌝ }
-    requires { ⌜ (256 ≤ length (now marks)) × Marked (now marks) (idsOf «in_width» (now inputs)) (idsOf «out_width» (now outputs)) ⌝ }
+    requires { ⌜ (2048 ≤ length (now marks)) × Marked (now marks) (idsOf «in_width» (now inputs)) (idsOf «out_width» (now outputs)) ⌝ }
     requires { ⌜ ((b : ℕ) → among b (idsOf «in_width» (now inputs)) ≡ true → among b (idsOf «out_width» (now outputs)) ≡ false) ⌝ }
     ensures { λ r. ⌜ (r .yes ≡ true → Quietly (now (s .entry)) used (r .first) (idOf id) (idOf low) (idsOf «in_width» (now (inputs .entry))) (idsOf «out_width» (now (outputs .entry)))) ⌝ }
 {
@@ -174,7 +173,7 @@ pub fn scan(
             first: 0,
         };
     }
-    let mut marks = [0u64; MARKS];
+    let mut marks = [0u8; MARKS];
     mark_list(&mut marks, inputs, in_width);
     mark_list(&mut marks, outputs, out_width);
     scan_marked(

@@ -12,9 +12,6 @@ use Rattle.boxes.proofs.marks.is_marked.Tie as tie
 mark-of-requires : tie.Need-mark-of-requires
 mark-of-requires c κs = search needs
 
-mul-result : tie.Need-mul-result
-mul-result c = search needs
-
 shared-slice-read-result : tie.Need-shared-slice-read-result
 shared-slice-read-result c = search needs
 
@@ -23,4 +20,4 @@ unfolding isMarked
 returns c = ap (λ (p : ℕ). not (eqb (getD (c .before .before .before .args .marks .now) p 0) 0)) (c .before .mark-of .ensures)
 
 pub is-marked-spec : {M : Type 1} → statement M
-is-marked-spec = tie.close (tie.spec mark-of-requires mul-result shared-slice-read-result returns)
+is-marked-spec = tie.close (tie.spec mark-of-requires shared-slice-read-result returns)

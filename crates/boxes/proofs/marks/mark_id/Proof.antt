@@ -9,9 +9,6 @@ use Rattle.boxes.proofs.marks.mark_id.Tie as tie
 mark-of-requires : tie.Need-mark-of-requires
 mark-of-requires c κs = search needs
 
-mul-marks : tie.Need-mul-marks
-mul-marks c = search needs
-
 slice-write-marks : tie.Need-slice-write-marks
 slice-write-marks c = search needs
 
@@ -22,4 +19,4 @@ returns : tie.Need-returns
 returns c = mark-id _ (idOf (c .before .before .args .id)) _ (omega arith) (omega arith)
 
 pub mark-id-spec : {M : Type 1} → statement M
-mark-id-spec = tie.close (tie.spec mark-of-requires mul-marks slice-write-marks same-length returns)
+mark-id-spec = tie.close (tie.spec mark-of-requires slice-write-marks same-length returns)

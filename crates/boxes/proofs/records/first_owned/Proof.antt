@@ -1,6 +1,5 @@
 -- `records::first_owned` meets its contract. The loop's invariant: the transaction owns none of the first i records. Assumes nothing.
 use native.Mathlib.Omega.{arith}
-use borrow.Author.Needs.{needs}
 use Prim.Native.Nat.{_-_, _≤_}
 use mathlib.Core.Path.{refl, sym, _∙_}
 use Rattle.words.specs.Ids.{idOf}
@@ -18,26 +17,23 @@ abbrev μ-loop : tie.MeasureT-loop
 loop-holds : tie.Need-loop-holds Inv-loop μ-loop
 loop-holds c = (omega arith, clear-none _ _)
 
-box-owner-requires : tie.Need-box-owner-requires Inv-loop μ-loop
-box-owner-requires c κs = ok-still _ _ _ _ (c .before .before .before .pre) refl (omega arith)
-
-same-id-requires : tie.Need-same-id-requires Inv-loop μ-loop
-same-id-requires c κs = search needs
+is-owner-requires : tie.Need-is-owner-requires Inv-loop μ-loop
+is-owner-requires c κs = ok-still _ _ _ _ (c .before .before .before .pre) refl (omega arith)
 
 returns : tie.Need-returns Inv-loop μ-loop
-returns c = c .before .before .before .before .loop .inv
+returns c = c .before .before .before .loop .inv
 
 add-i : tie.Need-add-i Inv-loop μ-loop
-add-i c = omega (arith, ok-bound _ _ (c .before .before .before .before .before .before .pre))
+add-i c = omega (arith, ok-bound _ _ (c .before .before .before .before .before .pre))
 
 loop-less : tie.Need-loop-less Inv-loop μ-loop
 loop-less c = omega arith
 
 loop-again : tie.Need-loop-again Inv-loop μ-loop
-loop-again c = (omega arith, clear-more _ _ _ _ (c .before .before .box-owner .ensures) (sym (c .before .same-id .ensures) ∙ c .if1 .left) (c .before .before .before .before .loop .inv .1))
+loop-again c = (omega arith, clear-more _ _ _ _ refl (sym (c .before .is-owner .ensures) ∙ c .if1 .left) (c .before .before .before .loop .inv .1))
 
 returns-2 : tie.Need-returns-2 Inv-loop μ-loop
 returns-2 c = c .before .loop .inv
 
 pub first-owned-spec : {M : Type 1} → statement M
-first-owned-spec = tie.close (tie.spec Inv-loop μ-loop loop-holds box-owner-requires same-id-requires returns add-i loop-less loop-again returns-2)
+first-owned-spec = tie.close (tie.spec Inv-loop μ-loop loop-holds is-owner-requires returns add-i loop-less loop-again returns-2)

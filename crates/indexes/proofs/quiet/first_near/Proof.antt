@@ -1,6 +1,5 @@
 -- `quiet::first_near` meets its contract. The loop's invariant is `Run`. Assumes nothing.
 use native.Mathlib.Omega.{arith}
-use borrow.Author.Needs.{needs}
 use Prim.Native.Nat.{_-_}
 use mathlib.Core.Path.{refl, sym, _∙_}
 use Rattle.words.specs.Ids.{idOf}
@@ -19,32 +18,29 @@ abbrev μ-loop : tie.MeasureT-loop
 loop-holds : tie.Need-loop-holds Inv-loop μ-loop
 loop-holds c = run-none _ _ _ _ _ _ _ (c .before .before .before .before .pre .0 .1)
 
-box-owner-requires : tie.Need-box-owner-requires Inv-loop μ-loop
-box-owner-requires c κs = ok-still _ _ _ _ (c .before .before .before .before .before .before .pre .0 .0) refl (omega arith)
-
-same-id-requires : tie.Need-same-id-requires Inv-loop μ-loop
-same-id-requires c κs = search needs
+is-owner-requires : tie.Need-is-owner-requires Inv-loop μ-loop
+is-owner-requires c κs = ok-still _ _ _ _ (c .before .before .before .before .before .before .pre .0 .0) refl (omega arith)
 
 returns : tie.Need-returns Inv-loop μ-loop
-returns c = c .before .before .before .before .loop .inv
+returns c = c .before .before .before .loop .inv
 
 is-near-requires : tie.Need-is-near-requires Inv-loop μ-loop
-is-near-requires c κs = (ok-still _ _ _ _ (c .before .before .before .before .before .before .before .before .before .pre .0 .0) refl (omega arith), c .before .before .before .before .before .before .before .before .before .pre .1)
+is-near-requires c κs = (ok-still _ _ _ _ (c .before .before .before .before .before .before .before .before .pre .0 .0) refl (omega arith), c .before .before .before .before .before .before .before .before .pre .1)
 
 returns-2 : tie.Need-returns-2 Inv-loop μ-loop
-returns-2 c = c .before .before .before .before .before .before .loop .inv
+returns-2 c = c .before .before .before .before .before .loop .inv
 
 add-i : tie.Need-add-i Inv-loop μ-loop
-add-i c = omega (arith, ok-bound _ _ (c .before .before .before .before .before .before .before .before .before .before .before .pre .0 .0))
+add-i c = omega (arith, ok-bound _ _ (c .before .before .before .before .before .before .before .before .before .before .pre .0 .0))
 
 loop-less : tie.Need-loop-less Inv-loop μ-loop
 loop-less c = omega arith
 
 loop-again : tie.Need-loop-again Inv-loop μ-loop
-loop-again c = run-more _ _ _ _ _ _ _ _ _ (omega arith) (c .before .before .before .before .box-owner .ensures) (sym (c .before .before .before .same-id .ensures) ∙ c .before .before .if1 .left) (c .before .is-near .ensures (c .if2 .left)) (c .before .before .before .before .before .before .loop .inv)
+loop-again c = run-more _ _ _ _ _ _ _ _ _ (omega arith) refl (sym (c .before .before .before .is-owner .ensures) ∙ c .before .before .if1 .left) (c .before .is-near .ensures (c .if2 .left)) (c .before .before .before .before .before .loop .inv)
 
 returns-3 : tie.Need-returns-3 Inv-loop μ-loop
 returns-3 c = c .before .loop .inv
 
 pub first-near-spec : {M : Type 1} → statement M
-first-near-spec = tie.close (tie.spec Inv-loop μ-loop loop-holds box-owner-requires same-id-requires returns is-near-requires returns-2 add-i loop-less loop-again returns-3)
+first-near-spec = tie.close (tie.spec Inv-loop μ-loop loop-holds is-owner-requires returns is-near-requires returns-2 add-i loop-less loop-again returns-3)
