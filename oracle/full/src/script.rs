@@ -7,8 +7,9 @@ use oracle::driver::{Driver, Stop, Submitted, PEERS};
 use oracle::forms::{hex, Form, Id, Output, Return, Settings, Tx, Verdict};
 use oracle::rng::Rng;
 use port::{
-    id_of, Block, GivenBack, Port, Row, Submission, APPLIED, BLOCK_TX_WORDS, DONE, ENTRY_WORDS,
-    FULL, ID_WORDS, INPUT_WORDS, OUTPUT_WORDS, RECORD_WORDS, RETURN_OUTPUT_WORDS,
+    id_of, words_of, Block, GivenBack, Port, Row, Submission, APPLIED, BLOCK_TX_WORDS, CANDIDATE,
+    DONE, ENDED, ENTRY_WORDS, FULL, ID_WORDS, INPUT_WORDS, INVALID, MISSING, OUTPUT_WORDS,
+    RECORD_WORDS, RETURN_OUTPUT_WORDS, VALID, VERDICT_NEEDED,
 };
 
 use crate::tally::{self, Tally};
@@ -39,6 +40,8 @@ pub struct Script<'a> {
     fresh: u64,
     boxes: Vec<Id>,
     ids: Vec<Id>,
+    /// The candidate that next gave last.
+    last: Id,
 }
 
 /// How a script's ids differ from one another: a port may compare words of an
@@ -109,6 +112,7 @@ impl<'a> Script<'a> {
             fresh: 0,
             boxes: Vec::new(),
             ids: Vec::new(),
+            last: [0; 32],
         }
     }
 
@@ -276,11 +280,13 @@ impl<'a> Script<'a> {
         let mut words = Submission::of(&call.tx);
         words.inputs.truncate(words.inputs.len() - call.cut.0);
         words.outputs.truncate(words.outputs.len() - call.cut.1);
-        self.port.set_pass(call.in_pass);
+        self.pretend(call.in_pass);
         let began = Instant::now();
         let here = self.port.process(&words, call.room);
         self.tally.port += began.elapsed();
-        self.port.set_pass(false);
+        if call.in_pass {
+            self.port.set_pass(self.rust.in_pass());
+        }
 
         self.tally.outcome(there, self.port.len(), self.port.records());
         self.compare_left(&there.to_string(), &here.to_string(), &ids);
@@ -291,7 +297,7 @@ impl<'a> Script<'a> {
     /// counts, and every few calls the pools.
     fn compare_left(&mut self, there: &str, here: &str, ids: &[Id]) {
         if here != there {
-            self.differ(&format!("the Rust says {}, the port {}", cut(there), cut(here)));
+            self.differ(&format!("the Rust says {}, the port {}", cut_text(there), cut_text(here)));
         } else if let Some(what) = self.compare_answer(ids) {
             self.differ(&what);
         } else if let Some(what) = self.compare_counts() {
@@ -301,8 +307,15 @@ impl<'a> Script<'a> {
         }
     }
 
-    /// A return, a block or an invalidation on both sides: the answer, the ids
-    /// written, the rest of the answer buffer, and the counts.
+    /// Says to the port that a pass is open.
+    fn pretend(&mut self, in_pass: bool) {
+        if in_pass {
+            self.port.set_pass(true);
+        }
+    }
+
+    /// A return, a block, an invalidation or a call of a pass on both sides: the
+    /// answer, the ids written, the rest of the answer buffer, and the counts.
     pub fn change(&mut self, change: Change) -> u64 {
         if self.over {
             return OVER;
@@ -315,9 +328,11 @@ impl<'a> Script<'a> {
             Ok(answer) => answer,
             Err(stop) => return self.ended(stop),
         };
-        self.port.set_pass(change.in_pass);
+        self.pretend(change.in_pass);
         let (number, here) = self.changed_here(&change);
-        self.port.set_pass(false);
+        if change.in_pass {
+            self.port.set_pass(self.rust.in_pass());
+        }
 
         let ids = self.rust.written().to_vec();
         self.tally.kind(change.form.name(), number);
@@ -334,8 +349,14 @@ impl<'a> Script<'a> {
             Form::Block { .. } => ((BLOCK_TX_WORDS, ID_WORDS), change.room / ID_WORDS),
             _ => ((1, 1), usize::MAX),
         };
+        if matches!(change.form, Form::Next) && change.room < ID_WORDS {
+            self.rust.forget();
+            return Err(Stop::Refused(2));
+        }
         let cut = change.cut.0 % widths.0 != 0 || change.cut.1 % widths.1 != 0;
-        let refused = match (change.in_pass, cut, room < self.len() + 1) {
+        let of_pass = matches!(change.form, Form::Open { .. } | Form::Next | Form::Answer { .. });
+        let in_pass = change.in_pass || (!of_pass && self.rust.in_pass());
+        let refused = match (in_pass, cut, room < self.len() + 1) {
             (true, _, _) => 20,
             (_, true, _) => 1,
             (_, _, true) => 2,
@@ -366,6 +387,35 @@ impl<'a> Script<'a> {
             Form::Invalidate { time, id } => {
                 let number = self.here(|port| port.invalidate(*time, id));
                 (number, said(number, DONE, || format!("(invalidated {})", hex(id))))
+            }
+            Form::Open { time, limit, preheader } => {
+                let number = self.here(|port| port.open(*time, *limit, *preheader));
+                (number, said(number, DONE, || "(opened)".into()))
+            }
+            Form::Next => {
+                let number = self.here(|port| port.next(change.room));
+                let id = self.candidate();
+                let (words, text) = match number {
+                    CANDIDATE => (ID_WORDS, format!("(candidate {})", hex(&id))),
+                    ENDED => (1, format!("(ended {})", self.port.answer[0])),
+                    refusal => (0, format!("(refused {refusal})")),
+                };
+                // What is written there, the text says.
+                self.shadow[..words].copy_from_slice(&self.port.answer[..words]);
+                (number, text)
+            }
+            Form::Answer { flags, verdict } => {
+                let number = self.here(|port| port.answer(flags, *verdict));
+                let kind = match number {
+                    MISSING => "missing",
+                    INVALID => "invalid",
+                    VALID => "valid",
+                    VERDICT_NEEDED => return (number, "(verdict needed)".into()),
+                    refusal => return (refusal, format!("(refused {refusal})")),
+                };
+                let id = self.last;
+                self.keep_id(id);
+                (number, format!("({kind} {})", hex(&id)))
             }
             other => panic!("no such call here: {other:?}"),
         }
@@ -415,7 +465,78 @@ impl<'a> Script<'a> {
         self.tally.kind(form.name(), number);
         let here = here.unwrap_or_else(|refusal| format!("(refused {refusal})"));
         if here != there {
-            self.differ(&format!("{form:?}: the Rust says {}, the port {}", cut(&there), cut(&here)));
+            self.differ(&format!("{form:?}: the Rust says {}, the port {}", cut_text(&there), cut_text(&here)));
+        }
+    }
+
+    /// The candidate that next gave last, as the port has it.
+    fn candidate(&mut self) -> Id {
+        self.last = id_of(&self.port.answer[..ID_WORDS]);
+        self.last
+    }
+
+    /// How many inputs the candidate has.
+    pub fn inputs_out(&self) -> usize {
+        let pool = self.rust.view().expect("a pool");
+        pool.get(&self.last).map_or(0, |utx| utx.tx.inputs.len())
+    }
+
+    pub fn in_pass(&self) -> bool {
+        self.rust.in_pass()
+    }
+
+    /// The sum that an ended pass named last.
+    pub fn ended_with(&self) -> u64 {
+        self.port.answer[0]
+    }
+
+    /// A rebroadcast on both sides, with so many words taken off its list, and so many of an answer buffer.
+    pub fn rebroadcast(&mut self, confirmed: Vec<Id>, cut: usize, room: usize) -> u64 {
+        if self.over {
+            return OVER;
+        }
+        self.calls += 1;
+        let mut words: Vec<u64> = confirmed.iter().flat_map(words_of).collect();
+        words.truncate(words.len() - cut);
+        let began = Instant::now();
+        let there = match (cut % ID_WORDS != 0, room / ID_WORDS < self.len() + 1) {
+            (true, _) => Err(Stop::Refused(1)),
+            (_, true) => Err(Stop::Refused(2)),
+            _ => self.rust.ask(Form::Rebroadcast(confirmed)),
+        };
+        self.tally.rust += began.elapsed();
+        let there = match answered(there) {
+            Ok(answer) => answer,
+            Err(stop) => return self.ended(stop),
+        };
+        let mut buffer = vec![7; room];
+        let began = Instant::now();
+        let chosen = self.port.select_for_rebroadcast(&words, &mut buffer);
+        self.tally.port += began.elapsed();
+        let (number, here) = match chosen {
+            Ok(count) => {
+                let list: String = buffer.chunks(ID_WORDS).take(count).map(|w| format!(" {}", hex(&id_of(w)))).collect();
+                let rest = buffer[count * ID_WORDS..].iter().all(|word| *word == 7);
+                if count >= 100 {
+                    self.tally.meet(tally::RESENT);
+                }
+                (0, format!("(ids{list}){}", if rest { "" } else { " and more" }))
+            }
+            Err(refusal) => (refusal, format!("(refused {refusal})")),
+        };
+        self.tally.kind("rebroadcast", number);
+        if here != there {
+            self.differ(&format!("rebroadcast: the Rust says {}, the port {}", cut_text(&there), cut_text(&here)));
+        }
+        number
+    }
+
+    fn keep_id(&mut self, id: Id) {
+        if self.ids.len() < REMEMBERED {
+            self.ids.push(id);
+        } else {
+            let place = self.rng.below(REMEMBERED as u64) as usize;
+            self.ids[place] = id;
         }
     }
 
@@ -423,7 +544,7 @@ impl<'a> Script<'a> {
     /// that are no whole records, an answer buffer that is too small.
     fn there(&mut self, call: &Call) -> Result<(u64, Vec<Id>), Stop> {
         let pooled = self.len();
-        if call.in_pass {
+        if call.in_pass || self.rust.in_pass() {
             return Ok((20, Vec::new()));
         }
         if call.cut.0 % INPUT_WORDS != 0 || call.cut.1 % OUTPUT_WORDS != 0 {
@@ -565,6 +686,14 @@ impl<'a> Script<'a> {
             let (there, here) = (there.get(rank), here.get(rank));
             return Some(format!("rank {rank}: the Rust has {there:?}, the port {here:?}"));
         }
+        let stamps = self.port.stamps();
+        for (rank, (utx, stamp)) in pool.all_prioritized().iter().zip(&stamps).enumerate() {
+            let (cost, checked, created) = *stamp;
+            let (checked, created) = (clock::Instant::at(checked), clock::Instant::at(created));
+            if (utx.validation_cost, utx.last_checked, utx.created) != (cost, checked, created) {
+                return Some(format!("what is stamped at rank {rank}: the port has {stamp:?}"));
+            }
+        }
         let first = self.rng.below(there.len() as u64 + 2) as usize;
         if self.port.top(first) != there[..first.min(there.len())] {
             return Some(format!("the first {first}"));
@@ -629,6 +758,7 @@ impl<'a> Script<'a> {
 fn answered(answer: Result<String, Stop>) -> Result<String, Stop> {
     match answer {
         Err(Stop::Refused(number)) => Ok(format!("(refused {number})")),
+        Err(Stop::VerdictNeeded) => Ok("(verdict needed)".into()),
         other => other,
     }
 }
@@ -639,7 +769,7 @@ fn said(number: u64, done: u64, text: impl FnOnce() -> String) -> String {
 }
 
 /// The beginning of an answer, for a message.
-fn cut(text: &str) -> &str {
+fn cut_text(text: &str) -> &str {
     text.get(..200).unwrap_or(text)
 }
 

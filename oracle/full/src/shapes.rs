@@ -2,7 +2,7 @@
 //! what the calls before came to.
 
 use oracle::forms::{Form, Id, Settings, Tx, Verdict};
-use port::{ACCEPTED, APPLIED, DONE, FULL, ID_WORDS, REPLACED};
+use port::{ACCEPTED, APPLIED, CANDIDATE, DONE, ENDED, FULL, ID_WORDS, REPLACED};
 
 use crate::script::{usual, Call, Change, Script};
 use crate::tally;
@@ -35,6 +35,8 @@ pub const SHAPES: &[Shape] = &[
     Shape { name: "mixed", make: mixed, scripts: 60 },
     Shape { name: "blocks", make: blocks, scripts: 4 },
     Shape { name: "returns", make: returns, scripts: 2 },
+    Shape { name: "passes", make: passes, scripts: 40 },
+    Shape { name: "sweeps", make: sweeps, scripts: 3 },
 ];
 
 /// A submission whose boxes others may spend.
@@ -752,7 +754,8 @@ fn starts(s: &mut Script) {
 
 /// Every call beside one another: submissions and returns out of few boxes and
 /// ids, blocks that confirm pooled and other transactions and spend their
-/// boxes, invalidations, and the fee queries, while the time goes on.
+/// boxes, invalidations, passes, rebroadcasts, and the fee queries, while the
+/// time goes on.
 fn mixed(s: &mut Script) {
     let settings = Settings {
         capacity: s.rng.pick(&[3, 40, 400]),
@@ -786,6 +789,8 @@ fn mixed(s: &mut Script) {
                 let (time, in_pass) = (s.time, s.rng.chance(odd));
                 s.change(Change { in_pass, ..Form::Invalidate { time, id }.into() });
             }
+            73 => pass(s, &boxes, &ids, odd, 60),
+            74..=76 => send(s, odd),
             _ => ask(s),
         }
     }
@@ -959,5 +964,188 @@ fn returns(s: &mut Script) {
         let fee = fee(s);
         let tx = s.tx(&confirmed, &[], records - 2, fee);
         give_back(s, &tx, 0);
+    }
+}
+
+/// A pass, of at most so many answers: candidates with all their inputs, with
+/// some, and invalid ones; the rest is found valid and free. At times there are
+/// calls out of turn, and queries.
+fn pass(s: &mut Script, boxes: &[Id], ids: &[Id], odd: u64, most: u64) {
+    let limit = s.rng.pick(&[0, 1, 2_000, 20_000, 1 << 40, u64::MAX, u64::MAX]);
+    let preheader = s.rng.pick(&[0, 24, 25, 50, 50, 50, 1 << 31, u32::MAX]);
+    let time = s.time;
+    s.change(Form::Open { time, limit, preheader }.into());
+    let confirmed = s.rng.pick(&[100, 98, 60]);
+    let mut answers = 0;
+    while s.in_pass() && !s.is_over() {
+        if s.rng.chance(odd) {
+            out_of_turn(s, boxes, ids);
+        }
+        match s.change(Form::Next.into()) {
+            CANDIDATE if answers < most => {}
+            CANDIDATE => {
+                let flags = vec![true; s.inputs_out()];
+                s.change(Form::Answer { flags, verdict: Verdict::Ok(0) }.into());
+                answers += 1;
+                continue;
+            }
+            ENDED => {
+                if limit < 1 << 41 && answers > 0 && s.ended_with() >= limit {
+                    s.met(tally::AT_LIMIT);
+                }
+                break;
+            }
+            _ => break,
+        }
+        if s.rng.chance(odd) {
+            let count = s.inputs_out() + s.rng.pick(&[0, 0, 1]);
+            let flags = vec![true; count];
+            let verdict = if count == s.inputs_out() { Verdict::None } else { Verdict::Ok(1) };
+            s.change(Form::Answer { flags, verdict }.into());
+            out_of_turn(s, boxes, ids);
+        }
+        let flags = (0..s.inputs_out()).map(|_| s.rng.chance(confirmed)).collect();
+        let verdict = match s.rng.below(10) {
+            0 => Verdict::Bad,
+            1 => Verdict::Ok(s.rng.pick(&[0, 1, 1 << 33, u64::MAX / 2, u64::MAX])),
+            _ => Verdict::Ok(s.rng.below(900)),
+        };
+        s.change(Form::Answer { flags, verdict }.into());
+        answers += 1;
+        if s.rng.chance(odd) {
+            send(s, odd);
+            ask(s);
+        }
+    }
+    if answers >= 100 {
+        s.met(tally::LONG_PASS);
+    }
+}
+
+/// Calls that an open pass refuses, or that have no candidate.
+fn out_of_turn(s: &mut Script, boxes: &[Id], ids: &[Id]) {
+    let time = s.time;
+    match s.rng.below(6) {
+        0 => {
+            let tx = meeting(s, boxes, ids, 80);
+            s.submit(tx);
+        }
+        1 => {
+            let tx = meeting(s, boxes, ids, 80);
+            give_back(s, &tx, 0);
+        }
+        2 => {
+            s.change(Form::Open { time, limit: 7, preheader: 7 }.into());
+        }
+        3 => {
+            s.change(Form::Answer { flags: Vec::new(), verdict: Verdict::Ok(7) }.into());
+        }
+        4 => {
+            let id = any_id(s, ids);
+            s.change(Form::Invalidate { time, id }.into());
+        }
+        _ => {
+            let room = s.rng.below(4) as usize;
+            s.change(Change { room, ..Form::Next.into() });
+        }
+    }
+}
+
+/// A rebroadcast: the inputs of some, and boxes that nobody asked for.
+fn send(s: &mut Script, odd: u64) {
+    let part = s.rng.pick(&[0, 50, 95, 100]);
+    let mut confirmed: Vec<Id> = Vec::new();
+    for (_, inputs) in s.pooled() {
+        if s.rng.chance(part) {
+            confirmed.extend(inputs);
+        } else {
+            confirmed.extend(inputs.iter().skip(1));
+        }
+    }
+    s.rng.shuffle(&mut confirmed);
+    let others = s.boxes(2);
+    confirmed.extend(others);
+    let cut = if s.rng.chance(odd) { s.rng.between(1, 3) as usize } else { 0 };
+    let just = (s.len() + 1) * ID_WORDS;
+    let room = if s.rng.chance(odd) { s.rng.pick(&[0, just - 1, just]) } else { just + 9 };
+    s.rebroadcast(confirmed, cut, room);
+}
+
+/// Pools of up to 400 whose passes come one after the other; a start cuts the
+/// last one off.
+fn passes(s: &mut Script) {
+    let settings = Settings {
+        capacity: s.rng.pick(&[3, 40, 400]),
+        min_fee: 0,
+        interval: s.rng.pick(&[0, 1, 30_000]),
+        rebroadcast: s.rng.pick(&[0, 1, 3, 1_000]),
+        ttl: s.rng.pick(&[0, 60_000]),
+        cache: s.rng.pick(&[0, 3, 200]),
+        ..usual()
+    };
+    s.start(settings.clone());
+    s.every = 8;
+    let count = s.rng.pick(&[30, 400]);
+    let (boxes, ids) = (s.boxes(count), s.boxes(count * 3));
+    let odd = s.rng.pick(&[2, 10]);
+    for _ in 0..12 {
+        for _ in 0..s.rng.pick(&[5, 60]) {
+            s.time += s.rng.below(2_000);
+            let tx = meeting(s, &boxes, &ids, 95);
+            if s.rng.chance(30) {
+                give_back(s, &tx, 0);
+            } else {
+                s.submit(tx);
+            }
+        }
+        s.time += s.rng.pick(&[0, 1, 2, 29_999, 30_000, 30_001, 90_000]);
+        send(s, odd);
+        let most = s.rng.pick(&[0, 5, u64::MAX]);
+        pass(s, &boxes, &ids, odd, most);
+        send(s, odd);
+    }
+    let time = s.time;
+    s.change(Form::Open { time, limit: 9, preheader: 50 }.into());
+    s.change(Form::Next.into());
+    if s.in_pass() && s.start(settings) == 0 {
+        s.met(tally::CUT_OFF);
+    }
+    s.change(Form::Next.into());
+    let tx = meeting(s, &boxes, &ids, 100);
+    s.submit(tx);
+}
+
+/// A pass over a full pool: the first are answered, then it comes to its limit;
+/// and rebroadcasts out of it.
+fn sweeps(s: &mut Script) {
+    let rebroadcast = s.rng.pick(&[200, 4_095]);
+    s.start(Settings { rebroadcast, ..usual() });
+    s.every = 2_048;
+    let mut made: Vec<Id> = Vec::new();
+    for _ in 0..4_200 {
+        s.time += s.rng.below(900);
+        let pooled = if s.rng.chance(20) { made.last().copied() } else { None };
+        let confirmed = s.boxes(2);
+        let fee = fee(s);
+        let tx = s.tx(&confirmed, pooled.as_slice(), 1, fee);
+        made.push(tx.outputs[1].box_id);
+        s.submit(tx);
+    }
+    let full = s.len() == 4_095;
+    s.every = 16;
+    for answers in [10, 40] {
+        s.time += 61_000;
+        send(s, 0);
+        let time = s.time;
+        s.change(Form::Open { time, limit: answers * 1_000, preheader: 50 }.into());
+        while s.in_pass() && s.change(Form::Next.into()) == CANDIDATE {
+            let flags = (0..s.inputs_out()).map(|_| s.rng.chance(98)).collect();
+            let verdict = if s.rng.chance(10) { Verdict::Bad } else { Verdict::Ok(1_000) };
+            s.change(Form::Answer { flags, verdict }.into());
+        }
+        if full && !s.in_pass() {
+            s.met(tally::SWEPT);
+        }
+        send(s, 0);
     }
 }

@@ -10,11 +10,16 @@ pub const OUTCOMES: &[u64] =
 /// And of a start.
 const STARTS: &[u64] = &[0, 6];
 
-/// And of the other calls, by the first word of their form: a number stands for a refusal, 0 and 100 for what is none.
+/// And of the other calls, by the first word of their form: a number stands for a refusal, 0 and those
+/// from 100 on for what is none.
 const KINDS: &[(&str, &[u64])] = &[
     ("return", &[0, 1, 3, 20, 23, 27]),
     ("block", &[100, 1, 2, 20]),
     ("invalidate", &[0, 20]),
+    ("open", &[0, 20]),
+    ("next", &[102, 103, 2, 21]),
+    ("answer", &[101, 104, 105, 106, 1, 21]),
+    ("rebroadcast", &[0, 1, 2]),
     ("fee", &[0, 3]),
     ("wait", &[0, 3]),
     ("histogram", &[0, 2, 11]),
@@ -39,9 +44,15 @@ pub const BIG_BLOCK: &str = "a block that takes 2,000 or more out of a full pool
 pub const DOUBLE_SPENDS: &str = "a block that drives out what it does not confirm";
 pub const OVERFULL: &str = "returns beyond the capacity";
 pub const SENT_BACK: &str = "what a block took, given back";
+pub const SWEPT: &str = "a pass over 4,095 entries, ended";
+pub const LONG_PASS: &str = "a pass of 100 answers or more";
+pub const AT_LIMIT: &str = "a pass that ended at its limit";
+pub const CUT_OFF: &str = "a start that cut a pass off";
+pub const RESENT: &str = "a rebroadcast of 100 ids or more";
 const MEETINGS: &[&str] = &[
     FULL_POOL, FULL_STORE, INPUTS, TOO_MANY, WALK, LONG_WALK, DEEP, EVICTS, GONE, LOSERS, WINNERS,
     ALL_PEERS, FULL_CACHE, EMPTY, BIG_BLOCK, DOUBLE_SPENDS, OVERFULL, SENT_BACK,
+    SWEPT, LONG_PASS, AT_LIMIT, CUT_OFF, RESENT,
 ];
 
 #[derive(Default)]

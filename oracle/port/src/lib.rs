@@ -33,6 +33,11 @@ pub const REPLACED: u64 = 100;
 pub const VERDICT_NEEDED: u64 = 101;
 pub const DONE: u64 = 0;
 pub const APPLIED: u64 = 100;
+pub const CANDIDATE: u64 = 102;
+pub const ENDED: u64 = 103;
+pub const MISSING: u64 = 104;
+pub const INVALID: u64 = 105;
+pub const VALID: u64 = 106;
 
 // Words of the state that no call tells.
 const RECORDS: usize = 10;
@@ -124,6 +129,41 @@ extern "C" {
         transactions_len: usize,
         inputs: *const u64,
         inputs_len: usize,
+    ) -> u64;
+    fn gunthyd_open(state: *mut u64, state_len: usize, time: u64, limit: u64, preheader: u32) -> u64;
+    fn gunthyd_next(
+        entries: *const u64,
+        entries_len: usize,
+        state: *mut u64,
+        state_len: usize,
+        answer: *mut u64,
+        answer_len: usize,
+    ) -> u64;
+    fn gunthyd_answer(
+        entries: *mut u64,
+        entries_len: usize,
+        boxes: *mut u64,
+        boxes_len: usize,
+        cache: *mut u64,
+        cache_len: usize,
+        state: *mut u64,
+        state_len: usize,
+        flags: *const u64,
+        flags_len: usize,
+        verdict: u64,
+        cost: u64,
+    ) -> u64;
+    fn gunthyd_select_for_rebroadcast(
+        entries: *const u64,
+        entries_len: usize,
+        boxes: *const u64,
+        boxes_len: usize,
+        answer: *mut u64,
+        answer_len: usize,
+        state: *const u64,
+        state_len: usize,
+        confirmed: *const u64,
+        confirmed_len: usize,
     ) -> u64;
     fn gunthyd_recommended_fee(
         state: *const u64,
@@ -252,6 +292,14 @@ pub fn id_of(words: &[u64]) -> Id {
     id
 }
 
+fn verdict_words(verdict: Verdict) -> (u64, u64) {
+    match verdict {
+        Verdict::None => (0, 0),
+        Verdict::Bad => (1, 0),
+        Verdict::Ok(cost) => (2, cost),
+    }
+}
+
 /// A submission as the port takes it.
 pub struct Submission {
     pub sub: [u64; 11],
@@ -262,11 +310,7 @@ pub struct Submission {
 impl Submission {
     pub fn of(tx: &Tx) -> Submission {
         let [a, b, c, d] = words_of(&tx.id);
-        let (verdict, cost) = match tx.verdict {
-            Verdict::None => (0, 0),
-            Verdict::Bad => (1, 0),
-            Verdict::Ok(cost) => (2, cost),
-        };
+        let (verdict, cost) = verdict_words(tx.verdict);
         let source = u64::from(tx.peer.is_some());
         let peer = tx.peer.unwrap_or(0);
         let preheader = u64::from(tx.preheader);
@@ -435,6 +479,32 @@ impl Port {
         ))
     }
 
+    pub fn open(&mut self, time: u64, limit: u64, preheader: u32) -> u64 {
+        call!(gunthyd_open(mut self.state, time, limit, preheader))
+    }
+
+    /// The next candidate of the pass, or the sum, into the first `room` words of the answer buffer.
+    pub fn next(&mut self, room: usize) -> u64 {
+        let Port { entries, state, .. } = self;
+        let answer = &mut self.answer[..room];
+        call!(gunthyd_next(ref entries, mut state, mut answer))
+    }
+
+    pub fn answer(&mut self, flags: &[bool], verdict: Verdict) -> u64 {
+        let flags: Vec<u64> = flags.iter().map(|flag| u64::from(*flag)).collect();
+        let (verdict, cost) = verdict_words(verdict);
+        let Port { entries, boxes, cache, state, .. } = self;
+        call!(gunthyd_answer(mut entries, mut boxes, mut cache, mut state, ref flags, verdict, cost))
+    }
+
+    /// Writes the ids of the transactions to send again: how many, or the refusal.
+    pub fn select_for_rebroadcast(&self, confirmed: &[u64], answer: &mut [u64]) -> Result<usize, u64> {
+        let code = call!(gunthyd_select_for_rebroadcast(
+            ref self.entries, ref self.boxes, mut answer, ref self.state, ref confirmed
+        ));
+        if code > answer.len() as u64 { Err(u64::MAX - code) } else { Ok(code as usize) }
+    }
+
     /// The fee for a wait of so many minutes, or the refusal.
     #[inline]
     pub fn recommended_fee(&self, minutes: u32, size: u32) -> Result<u64, u64> {
@@ -519,7 +589,13 @@ impl Port {
         self.peers.chunks(PEER_WORDS).take(used).map(|p| (p[0], p[1])).collect()
     }
 
-    /// Says that a pass is open, or that none is: no call opens one here yet.
+    /// What a pass stamps, in priority order: the measured cost, and when it was last checked; and when the entry was made.
+    pub fn stamps(&self) -> Vec<(Option<u64>, u64, u64)> {
+        let stamp = |e: &[u64]| ((e[8] != 0).then_some(e[9]), e[11], e[10]);
+        self.entries.chunks(ENTRY_WORDS).take(self.len()).map(stamp).collect()
+    }
+
+    /// Says that a pass is open, or that none is, without the call that opens one.
     pub fn set_pass(&mut self, open: bool) {
         self.state[PASS_OPEN] = open.into();
     }
