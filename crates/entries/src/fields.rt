@@ -2,14 +2,14 @@
 // last checked, height key, number of inputs. Only this module knows the layout.
 use words::ids::Id;
 use words::ids::load_id;
+use words::ids::put_four;
 use words::ids::put_id;
 use words::ids::same_id;
 ghost use mathlib.Core.Path.{_≡_};
-ghost use mathlib.Core.List.{_∷_, []};
 ghost use Prim.Native.Nat.{ℕ, _+_, _≤_};
 ghost use lib.Dec.{eqb};
 ghost use lib.ListN.{length, set};
-ghost use Rattle.words.specs.Ids.{idOf, Four};
+ghost use Rattle.words.specs.Ids.{idOf};
 ghost use Rattle.words.specs.Rows.{stored};
 ghost use Rattle.entries.specs.Layout.{entriesRoom, EntriesOk, entryOf, entryAt, entriesOf, Plain, wordOf, costOf, tagOf, valueOf, entryWords};
 
@@ -163,16 +163,6 @@ fn value_of(c: ValidationCost) -> u64
         ValidationCost::Unmeasured => 0,
         ValidationCost::Measured(v) => v,
     }
-}
-
-fn put_four(s: &mut [u64], p: usize, a: u64, b: u64, c: u64, d: u64)
-    requires { ⌜ Four p (length (now s)) ⌝ }
-    ensures { λ _. ⌜ now (s .exit) ≡ stored (now (s .entry)) p (a ∷ b ∷ c ∷ d ∷ []) ⌝ }
-{
-    s[p] = a;
-    s[p + 1] = b;
-    s[p + 2] = c;
-    s[p + 3] = d;
 }
 
 fn put_row(s: &mut [u64], p: usize, e: PoolEntry)

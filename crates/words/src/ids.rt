@@ -1,6 +1,7 @@
 // Ids of 32 bytes, as four words of 64 bits with the first bytes first. In a contract an id is one number, `idOf`, so that the order of
 // ids as bytes is the order of numbers.
 ghost use mathlib.Core.Path.{_≡_};
+ghost use mathlib.Core.List.{_∷_, []};
 ghost use Prim.Native.Nat.{_+_, _≤_};
 ghost use lib.ListN.{length};
 ghost use lib.Dec.{eqb, ltb};
@@ -34,15 +35,23 @@ pub fn load_id(s: &[u64], at: usize) -> Id
     get_id(s, at)
 }
 
+// Writes four words from index `at` on.
+pub fn put_four(s: &mut [u64], at: usize, a: u64, b: u64, c: u64, d: u64)
+    requires { ⌜ Four at (length (now s)) ⌝ }
+    ensures { λ _. ⌜ now (s .exit) ≡ stored (now (s .entry)) at (a ∷ b ∷ c ∷ d ∷ []) ⌝ }
+{
+    s[at] = a;
+    s[at + 1] = b;
+    s[at + 2] = c;
+    s[at + 3] = d;
+}
+
 // Writes an id to the four words from index `at`.
 pub fn put_id(s: &mut [u64], at: usize, x: Id)
     requires { ⌜ Four at (length (now s)) ⌝ }
     ensures { λ _. ⌜ now (s .exit) ≡ stored (now (s .entry)) at (idWords x) ⌝ }
 {
-    s[at] = x.a;
-    s[at + 1] = x.b;
-    s[at + 2] = x.c;
-    s[at + 3] = x.d;
+    put_four(s, at, x.a, x.b, x.c, x.d);
 }
 
 pub fn same_id(x: Id, y: Id) -> bool
