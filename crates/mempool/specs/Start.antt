@@ -39,7 +39,7 @@ settled z c =
     (pick (ltb 9223372036854775808 (c .«cost_per_block»)) false
     (leb (c .«cost_per_peer_per_block») 9223372036854775808)))
 
--- "an empty pool, no charge, no pass"
+-- what an accepted start leaves: nothing pooled, nothing charged, no pass
 unfoldable pub empty : MempoolConfig → Mempool
 empty c =
     record {
