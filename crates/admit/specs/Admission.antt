@@ -21,14 +21,14 @@ use Rattle.weight.specs.Weight.{feePerFactor}
 use Rattle.arguments.specs.Arguments.{feeOf, feeSum}
 use Rattle.arguments.specs.declared.FeeSum.the-variants.{Sum, Beyond}
 use Rattle.entries.specs.Entries.{Entry, pooled}
-use Rattle.entries.specs.Layout.{entries}
+use Rattle.entries.specs.Layout.{entriesOf, entries}
 use Rattle.entries.specs.Layout.{ok-still as entries-still, ok-fewer as entries-fewer}
 use Rattle.entries.specs.Laws.{length-without}
 use Rattle.boxes.specs.Records.{dropOwner, index, conflicts}
 use Rattle.boxes.specs.Flat.{idsOf}
-use Rattle.boxes.specs.Layout.{boxes}
+use Rattle.boxes.specs.Layout.{boxesOf, room-still}
 use Rattle.boxes.specs.Layout.{ok-still as boxes-still}
-use Rattle.pool.specs.Pool.{Tables, tablesOf, PoolFits, Room, Left, insertTx, removeTx, removeAll, evicted}
+use Rattle.pool.specs.Pool.{Tables, tablesOf, PoolFits, Room, Made, Left, insertTx, removeTx, removeAll, evicted}
 use Rattle.family.specs.Family.{propagated}
 use Rattle.answers.specs.Answers.{Wrote, wrote-nothing, wrote-both}
 use Rattle.admit.specs.Admit.{Admitted, costOf, loses, crowded, newcomer, joined, settled, seated, contested, admitSpec}
@@ -46,7 +46,26 @@ pub record Leaves (e b : List ℕ) (r : Admission) (a₀ a : List ℕ) (s : Admi
 
 pub room-fits : (e b : List ℕ) (c : Counts) (needed : ℕ) → Room e b c needed → PoolFits e b c
 room-fits e b c needed r =
-    record { entries = entries-fewer e (c .pooled) (c .pooled + 1) (r .entries) (omega arith); boxes = boxes-still b b (c .records) (c .records + needed) (r .boxes) refl (omega arith) }
+    record { entries = entries-fewer e (c .pooled) (c .pooled + 1) (r .entries) (omega arith); boxes = r .boxes }
+
+-- room that was made is room, and the tables are the same
+module _ (e b m : List ℕ) (c d : Counts) (needed : ℕ) (k : Made b m c d needed) where
+  pub made-room : Room e b c needed → Room e m d needed
+  made-room r =
+      record {
+        entries = rw (k .pooled) (r .entries);
+        boxes = boxes-still m m (d .records) (d .records + needed) (k .room) refl (omega arith);
+        free = rw (k .rows, room-still b m (k .kept)) (r .free);
+      }
+
+  made-tables : tablesOf e m d ≡ tablesOf e b c
+  made-tables = λ i. record { entries = entriesOf e (k .pooled i); boxes = k .rows i }
+
+  pub made-leaves : (visits capacity : ℕ) (x : Entry) (ins outs e' b' : List ℕ) (r : Admission) (a₀ a : List ℕ)
+      → Leaves e' b' r a₀ a (contested visits capacity x ins outs (conflicts (index false (boxesOf m (d .records))) (idsOf 5 ins)) (tablesOf e m d))
+      → Leaves e' b' r a₀ a (contested visits capacity x ins outs (conflicts (index false (boxesOf b (c .records))) (idsOf 5 ins)) (tablesOf e b c))
+  made-leaves visits capacity x ins outs e' b' r a₀ a =
+      subst (λ (t : Tables). Leaves e' b' r a₀ a (contested visits capacity x ins outs (conflicts (index false (t .boxes)) (idsOf 5 ins)) t)) made-tables
 
 -- removals leave no more than there was, and so no less room
 length-keep : {A : Type 0} (p : A → Bool) (l : List A) → length (keep p l) ≤ length l
@@ -71,12 +90,13 @@ all-within : (ks : List ℕ) (t : Tables) → Within (removeAll ks t) t
 all-within [] t = (omega arith, omega arith)
 all-within (k ∷ ks) t = let h = remove-within k t in let g = all-within ks (removeTx k t) in (omega (arith, h .0, g .0), omega (arith, h .1, g .1))
 
-pub room-after : (e b m o : List ℕ) (c d : Counts) (needed : ℕ) (ks : List ℕ) → Room e b c needed → length m ≡ length e → length o ≡ length b → tablesOf m o d ≡ removeAll ks (tablesOf e b c) → Room m o d needed
+pub room-after : (e b m o : List ℕ) (c d : Counts) (needed : ℕ) (ks : List ℕ) → Room e b c needed → length m ≡ length e → length o ≡ length b → Left m o d (removeAll ks (tablesOf e b c)) → Room m o d needed
 room-after e b m o c d needed ks r p q h =
     let w = all-within ks (tablesOf e b c) in
     record {
-      entries = entries-still e m (d .pooled + 1) (c .pooled + 1) (r .entries) p (omega (arith, w .0, ap (λ (t : Tables). length (t .entries)) h, entries .len m (d .pooled), entries .len e (c .pooled)));
-      boxes = boxes-still b o (d .records + needed) (c .records + needed) (r .boxes) q (omega (arith, w .1, ap (λ (t : Tables). length (t .boxes)) h, boxes .len o (d .records), boxes .len b (c .records)));
+      entries = entries-still e m (d .pooled + 1) (c .pooled + 1) (r .entries) p (omega (arith, w .0, ap (λ (t : Tables). length (t .entries)) (h .tables), entries .len m (d .pooled), entries .len e (c .pooled)));
+      boxes = h .fits .boxes;
+      free = omega (arith, w .1, ap (λ (t : Tables). length (t .boxes)) (h .tables), r .free, room-still b o q);
     }
 
 -- ---- the newcomer enters: the tables t, u with it, v with its credits, and then the eviction

@@ -17,6 +17,7 @@ use indexes::conflicts::conflicts;
 use indexes::quiet::scan;
 use pool::insert;
 use pool::insert_alone;
+use pool::make_room;
 use pool::remove_all;
 use pool_types::Counts;
 use pool_types::MempoolConfig;
@@ -38,7 +39,7 @@ ghost use Rattle.pool_types.specs.Outcomes.{processedOf, done, wrote};
 ghost use Rattle.arguments.specs.Arguments.{feeOf};
 ghost use Rattle.entries.specs.Layout.{entryOf};
 ghost use Rattle.boxes.specs.Records.{index, conflicts};
-ghost use Rattle.boxes.specs.Layout.{boxesOf};
+ghost use Rattle.boxes.specs.Layout.{BoxesOk, boxesOf};
 ghost use Rattle.boxes.specs.Flat.{countOf, idsTo, idsOf};
 ghost use Rattle.indexes.specs.Quiet.{Quietly};
 ghost use Rattle.pool.specs.Pool.{Room, tablesOf};
@@ -116,10 +117,23 @@ fn enter(
     let base = e.base;
     let entered = insert(entries, boxes, counts, e, inputs, 5, outputs, 7);
     propagate_family_weight(entries, boxes, entered, id, base);
-    evict_to(entries, boxes, entered, capacity, answer, at, write, id, 0)
+    evict_to(
+        entries,
+        boxes,
+        entered,
+        capacity,
+        answer,
+        at,
+        write,
+        id,
+        0,
+        0,
+        0,
+    )
 }
 
-// The same for one that stands alone: nothing is hidden for it, and it has no family to credit. `low` owns none of the first records.
+// The same for one that stands alone: nothing is hidden for it, and it has no family to credit. `low` owns none of the slots before `first`
+// and none from `last` on.
 fn enter_alone(
     entries: &mut [u64],
     boxes: &mut [u64],
@@ -131,22 +145,26 @@ fn enter_alone(
     answer: &mut [u64],
     low: Id,
     first: usize,
+    last: usize,
 ) -> Evicted
     requires { ⌜ Room (now entries) (now boxes) counts (countOf 5 (now inputs) + countOf 7 (now outputs)) ⌝ }
-    requires { ⌜ Quietly (now boxes) (counts .records) first (idOf (e .id)) (idOf low) (idsOf 5 (now inputs)) (idsOf 7 (now outputs)) ⌝ }
+    requires { ⌜ Quietly (now boxes) (counts .records) first last (idOf (e .id)) (idOf low) (idsOf 5 (now inputs)) (idsOf 7 (now outputs)) ⌝ }
+    requires { ⌜ BoxesOk (now boxes) (counts .records + (countOf 5 (now inputs) + countOf 7 (now outputs))) ⌝ }
     ensures { λ r. ⌜ Evicts capacity 0 false (joined 500 (entryOf e) (now (inputs .entry)) (now (outputs .entry)) (tablesOf (now (entries .entry)) (now (boxes .entry)) counts)) (now (entries .exit)) (now (boxes .exit)) r (now (answer .entry)) (now (answer .exit)) ⌝ }
 {
-    let entered = insert_alone(entries, boxes, counts, e, inputs, 5, outputs, 7);
+    let joined = insert_alone(entries, boxes, counts, e, inputs, 5, outputs, 7);
     evict_to(
         entries,
         boxes,
-        entered,
+        joined,
         capacity,
         answer,
         0,
         false,
         low,
         first,
+        last,
+        counts.records,
     )
 }
 
@@ -215,9 +233,11 @@ fn seat_alone(
     answer: &mut [u64],
     low: Id,
     first: usize,
+    last: usize,
 ) -> Admission
     requires { ⌜ Room (now entries) (now boxes) counts (countOf 5 (now inputs) + countOf 7 (now outputs)) ⌝ }
-    requires { ⌜ Quietly (now boxes) (counts .records) first (idOf (e .id)) (idOf low) (idsOf 5 (now inputs)) (idsOf 7 (now outputs)) ⌝ }
+    requires { ⌜ Quietly (now boxes) (counts .records) first last (idOf (e .id)) (idOf low) (idsOf 5 (now inputs)) (idsOf 7 (now outputs)) ⌝ }
+    requires { ⌜ BoxesOk (now boxes) (counts .records + (countOf 5 (now inputs) + countOf 7 (now outputs))) ⌝ }
     ensures { λ r. ⌜ Leaves (now (entries .exit)) (now (boxes .exit)) r (now (answer .entry)) (now (answer .exit)) (seated 500 capacity (entryOf e) (now (inputs .entry)) (now (outputs .entry)) [] (tablesOf (now (entries .entry)) (now (boxes .entry)) counts)) ⌝ }
 {
     if is_crowded(entries, counts, capacity, e.base) {
@@ -237,6 +257,7 @@ fn seat_alone(
         answer,
         low,
         first,
+        last,
     );
     let after = left.counts;
     Admission {
@@ -285,7 +306,7 @@ fn contest(
 }
 
 // Whether the newcomer stands alone, or has nobody to contest with, is told in one scan each: most do, and no list is cleared for them.
-fn place(
+fn find_place(
     entries: &mut [u64],
     boxes: &mut [u64],
     counts: Counts,
@@ -296,7 +317,7 @@ fn place(
     answer: &mut [u64],
 ) -> Admission
     requires { ⌜ Room (now entries) (now boxes) counts (countOf 5 (now inputs) + countOf 7 (now outputs)) ⌝ }
-    requires { ⌜ countOf 5 (now inputs) ≤ 5000 ⌝ }
+    requires { ⌜ (countOf 5 (now inputs) ≤ 5000) × BoxesOk (now boxes) (counts .records + (countOf 5 (now inputs) + countOf 7 (now outputs))) ⌝ }
     ensures { λ r. ⌜ Leaves (now (entries .exit)) (now (boxes .exit)) r (now (answer .entry)) (now (answer .exit)) (contested 500 capacity (entryOf e) (now (inputs .entry)) (now (outputs .entry)) (conflicts (index false (boxesOf (now (boxes .entry)) (counts .records))) (idsOf 5 (now (inputs .entry)))) (tablesOf (now (entries .entry)) (now (boxes .entry)) counts)) ⌝ }
 {
     let id = e.id;
@@ -314,6 +335,7 @@ fn place(
             answer,
             low,
             q.first,
+            q.last,
         );
     }
     if any_spent(boxes, counts.records, inputs, 5) {
@@ -332,6 +354,26 @@ fn place(
         0,
         answer,
     )
+}
+
+// Room is made for the newcomer's records before it is told where others stand.
+fn place(
+    entries: &mut [u64],
+    boxes: &mut [u64],
+    counts: Counts,
+    e: PoolEntry,
+    inputs: &[u64],
+    outputs: &[u64],
+    capacity: usize,
+    answer: &mut [u64],
+) -> Admission
+    requires { ⌜ Room (now entries) (now boxes) counts (countOf 5 (now inputs) + countOf 7 (now outputs)) ⌝ }
+    requires { ⌜ countOf 5 (now inputs) ≤ 5000 ⌝ }
+    ensures { λ r. ⌜ Leaves (now (entries .exit)) (now (boxes .exit)) r (now (answer .entry)) (now (answer .exit)) (contested 500 capacity (entryOf e) (now (inputs .entry)) (now (outputs .entry)) (conflicts (index false (boxesOf (now (boxes .entry)) (counts .records))) (idsOf 5 (now (inputs .entry)))) (tablesOf (now (entries .entry)) (now (boxes .entry)) counts)) ⌝ }
+{
+    let needed = count_records(inputs, 5) + count_records(outputs, 7);
+    let ready = make_room(boxes, counts, needed);
+    find_place(entries, boxes, ready, e, inputs, outputs, capacity, answer)
 }
 
 // 10, or the newcomer that pays this fee takes a place.

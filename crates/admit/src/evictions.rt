@@ -11,7 +11,7 @@ ghost use Prim.Native.Nat.{_≤_};
 ghost use Rattle.words.specs.Lists.{pick};
 ghost use Rattle.words.specs.Ids.{idOf};
 ghost use Rattle.entries.specs.Layout.{EntriesOk, entriesOf};
-ghost use Rattle.boxes.specs.Clear.{Clear};
+ghost use Rattle.boxes.specs.Clear.{Between};
 ghost use Rattle.pool.specs.Pool.{PoolFits, tablesOf};
 ghost use Rattle.answers.specs.Answers.{Wrote};
 ghost use Rattle.admit.specs.Admit.{crowded};
@@ -57,7 +57,7 @@ pub fn lowest_or(entries: &[u64], counts: Counts, id: Id) -> Id
 }
 
 // Takes out the lowest until at most `capacity` are left. Their ids are written from place `at` on, or not at all. It is known that `low` owns
-// none of the first records: as long as nothing was taken out these are not read for it.
+// none of the slots before `first`, and none from `last` on and before `rest`: as long as nothing was taken out these are not read for it.
 pub fn evict_to(
     entries: &mut [u64],
     boxes: &mut [u64],
@@ -68,19 +68,25 @@ pub fn evict_to(
     write: bool,
     low: Id,
     first: usize,
+    last: usize,
+    rest: usize,
 ) -> Evicted
     requires { ⌜ PoolFits (now entries) (now boxes) counts ⌝ }
     requires { ⌜ at ≤ 5000 ⌝ }
-    requires { ⌜ (first ≤ counts .records) × Clear (now boxes) (idOf low) first ⌝ }
+    requires { ⌜ Between (now boxes) (counts .records) (idOf low) first last rest ⌝ }
     ensures { λ r. ⌜ Evicts capacity at write (tablesOf (now (entries .entry)) (now (boxes .entry)) counts) (now (entries .exit)) (now (boxes .exit)) r (now (answer .entry)) (now (answer .exit)) ⌝ }
 {
     let mut left = counts;
     let mut n = 0;
     let mut from = first;
+    let mut to = last;
+    let mut behind = rest;
     while capacity < left.pooled {
         note_id(answer, at + n, lowest_id(entries, left), write);
-        left = evict_low(entries, boxes, left, low, from);
+        left = evict_low(entries, boxes, left, low, from, to, behind);
         from = 0;
+        to = 0;
+        behind = 0;
         n += 1;
     }
     Evicted { counts: left, n }

@@ -1,26 +1,30 @@
--- The records in front of the first one that a transaction owns: a removal leaves them where they are.
-use Prim.Native.Nat.{ℕ, _+_, _≤_}
-use mathlib.Core.Path.{_≡_, refl, sym, ap, _∙_}
+-- Slots that a transaction owns none of: a removal does not read them.
+use Prim.Native.Nat.{ℕ, _≤_, _<_}
+use mathlib.Core.Path.{_≡_, ap, _∙_}
 use mathlib.Core.Bool.{false}
-use mathlib.Core.List.{List, _++_}
+use mathlib.Core.List.{List}
 use native.Mathlib.Omega.{arith}
 use lib.Dec.{eqb}
-use Rattle.words.specs.Lists.{other, keep-snoc}
-use Rattle.words.specs.Tables.{Kept, of-none, of-suc}
-use Rattle.boxes.specs.Among.{is-other}
-use Rattle.boxes.specs.Records.{BoxRec, dropOwner}
-use Rattle.boxes.specs.Layout.{boxAt, boxesOf, boxes}
+use Rattle.boxes.specs.Records.{BoxRec}
+use Rattle.boxes.specs.Layout.{boxAt}
 
--- transaction k owns none of the first n records
-pub record Clear (l : List ℕ) (k n : ℕ) : Type 0 where
-  pub rows : dropOwner k (boxesOf l n) ≡ boxesOf l n
+-- transaction k owns none of the slots from `from` on and before `to`
+pub record Clear (l : List ℕ) (k from to : ℕ) : Type 0 where
+  pub none : (j : ℕ) → from ≤ j → j < to → eqb (boxAt l j .owner) k ≡ false
 
-pub clear-none : (l : List ℕ) (k : ℕ) → Clear l k 0
-clear-none l k = record { rows = rw (of-none boxes l) }
+-- of n slots it may own those from `from` on and before `to`, and those from `rest` on
+pub record Between (l : List ℕ) (n k from to rest : ℕ) : Type 0 where
+  pub order : (from ≤ to) × (to ≤ rest) × (rest ≤ n)
+  pub before : Clear l k 0 from
+  pub behind : Clear l k to rest
 
-pub clear-more : (l : List ℕ) (k i x : ℕ) → x ≡ boxAt l i .owner → eqb x k ≡ false → Clear l k i → Clear l k (i + 1)
-clear-more l k i x e t c = record { rows = rw (of-suc boxes l i, keep-snoc, is-other k x (boxAt l i .owner) e t, c .rows) }
+-- nothing is known of where it owns any
+pub anywhere : (l : List ℕ) (n k : ℕ) → Between l n k 0 0 0
+anywhere l n k = record { order = (omega arith, omega arith, omega arith); before = record { none = λ j a b. absurd (omega arith) }; behind = record { none = λ j a b. absurd (omega arith) } }
 
--- a removal may begin behind them
-pub kept-from : (l : List ℕ) (k n from : ℕ) → from ≤ n → Clear l k from → Kept boxesOf (λ b. other k (b .owner)) l l n from from
-kept-from l k n from h c = record { low = omega arith; high = h; done = sym (c .rows); rest = refl }
+-- the first n slots read as they did
+pub record Still (l m : List ℕ) (n : ℕ) : Type 0 where
+  pub same : (j : ℕ) → j < n → boxAt m j ≡ boxAt l j
+
+pub clear-still : (l m : List ℕ) (n k from to : ℕ) → Still l m n → to ≤ n → Clear l k from to → Clear m k from to
+clear-still l m n k from to s h c = record { none = λ j a b. ap (λ (r : BoxRec). eqb (r .owner) k) (s .same j (omega arith)) ∙ c .none j a b }

@@ -2,10 +2,13 @@ pub mod Records
 pub mod Among
 pub mod Entering
 pub mod Flat
+pub mod Each
+pub mod Slots
 pub mod Layout
+pub mod Stores
 pub mod Marks
 pub mod Mapped
-pub mod Writing
 pub mod Clear
 pub mod Posts
+pub mod Writing
 pub mod IndexLaws

@@ -5,8 +5,8 @@ use crate::lists::id_at;
 use words::ids::Id;
 ghost use mathlib.Core.Path.{_≡_};
 ghost use mathlib.Core.List.{_∷_, []};
-ghost use Prim.Native.Nat.{_≤_, _%_};
-ghost use lib.ListN.{length};
+ghost use Prim.Native.Nat.{_≤_, _<_, _%_};
+ghost use lib.ListN.{length, getD};
 ghost use Rattle.words.specs.Ids.{idOf};
 ghost use Rattle.boxes.specs.Flat.{idsOf};
 ghost use Rattle.boxes.specs.Marks.{isMarked, Marking};
@@ -47,4 +47,13 @@ pub fn is_marked(marks: &[u8], id: Id) -> bool
 {
     let at = mark_of(id);
     marks[at] != 0
+}
+
+// The byte itself, so that several can be added up before one test.
+pub fn mark_at(marks: &[u8], id: Id) -> u64
+    requires { ⌜ 2048 ≤ length (now marks) ⌝ }
+    ensures { λ r. ⌜ (r < 256) × (r ≡ getD (now (marks .entry)) (idOf id % 2048) 0) ⌝ }
+{
+    let at = mark_of(id);
+    marks[at] as u64
 }

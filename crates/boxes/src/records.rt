@@ -10,10 +10,13 @@ use crate::rows::BoxRow;
 use crate::rows::box_key;
 use crate::rows::box_live;
 use crate::rows::box_out;
+use crate::rows::boxes_room;
 use crate::rows::hide_box;
+use crate::rows::is_gone;
 use crate::rows::is_owner;
 use crate::rows::move_box;
 use crate::rows::store_box;
+use crate::rows::vacate_box;
 use words::ids::Id;
 ghost use mathlib.Core.Path.{_≡_};
 ghost use mathlib.Core.Bool.{true, false};
@@ -22,40 +25,79 @@ ghost use Prim.Native.Nat.{ℕ, _+_, _*_, _≤_, _<_};
 ghost use lib.ListN.{length, set, drop};
 ghost use Rattle.words.specs.Ids.{idOf, idAt};
 ghost use Rattle.boxes.specs.Flat.{countOf, idsOf};
-ghost use Rattle.boxes.specs.Layout.{BoxesOk, boxAt, boxesOf};
+ghost use Rattle.boxes.specs.Slots.{solid, hideSlot};
+ghost use Rattle.boxes.specs.Layout.{boxesRoom, BoxesOk, slotAt, slotsOf, boxAt, boxesOf};
 ghost use Rattle.boxes.specs.Entering.{overtakenBy, hideTx, newBox, newBoxes};
 ghost use Rattle.boxes.specs.Marks.{Marked};
-ghost use Rattle.boxes.specs.Clear.{Clear};
-ghost use Rattle.boxes.specs.Posts.{Entered, Behind, Dropped, Written};
+ghost use Rattle.boxes.specs.Clear.{Between};
+ghost use Rattle.boxes.specs.Posts.{Entered, Behind, Swept, Dropped, Compacted, Roomy, Written};
 
 // ---- a transaction leaves
 
-// Where the records that a transaction owns begin: it owns none of those before.
-fn first_owned(s: &[u64], used: usize, owner: Id) -> usize
-    requires { ⌜ BoxesOk (now s) used ⌝ }
-    ensures { λ r. ⌜ (r ≤ used) × Clear (now (s .entry)) (idOf owner) r ⌝ }
+// The slots from `from` on and before `to` that a transaction owns are vacated.
+fn vacate_range(s: &mut [u64], owner: Id, from: usize, to: usize)
+    requires { ⌜ BoxesOk (now s) to ⌝ }
+    requires { ⌜ from ≤ to ⌝ }
+    ensures { λ _. ⌜ Swept (now (s .entry)) (now (s .exit)) (idOf owner) from to ⌝ }
 {
-    let mut i = 0;
-    while i < used {
+    let mut i = from;
+    while i < to {
         if is_owner(s, i, owner) {
-            return i;
+            vacate_box(s, i);
+            i += 1;
+        } else {
+            i += 1;
         }
-        i += 1;
     }
-    i
 }
 
-// Keeps, in order, the records that another transaction owns, live or not, and returns how many they are. The first `from`, of which it owns
-// none, stay where they are.
-pub fn drop_from(s: &mut [u64], used: usize, owner: Id, from: usize) -> usize
+// All records that a transaction owns go. Their slots stay where they are until the records are moved together.
+pub fn drop_owner(s: &mut [u64], used: usize, owner: Id)
     requires { ⌜ BoxesOk (now s) used ⌝ }
-    requires { ⌜ (from ≤ used) × Clear (now s) (idOf owner) from ⌝ }
-    ensures { λ r. ⌜ Dropped (now (s .entry)) (now (s .exit)) used r (idOf owner) ⌝ }
+    ensures { λ _. ⌜ Dropped (now (s .entry)) (now (s .exit)) used (idOf owner) ⌝ }
 {
-    let mut w = from;
-    let mut r = from;
+    vacate_range(s, owner, 0, used);
+}
+
+// The same where it is known that it owns none of those before `from`, and none from `to` on and before `rest`.
+pub fn drop_between(s: &mut [u64], used: usize, owner: Id, from: usize, to: usize, rest: usize)
+    requires { ⌜ BoxesOk (now s) used ⌝ }
+    requires { ⌜ Between (now s) used (idOf owner) from to rest ⌝ }
+    ensures { λ _. ⌜ Dropped (now (s .entry)) (now (s .exit)) used (idOf owner) ⌝ }
+{
+    vacate_range(s, owner, from, to);
+    vacate_range(s, owner, rest, used);
+}
+
+// ---- vacated slots are used again
+
+// How many records the first `used` slots hold.
+pub fn count_boxes(s: &[u64], used: usize) -> usize
+    requires { ⌜ BoxesOk (now s) used ⌝ }
+    ensures { λ r. ⌜ r ≡ length (boxesOf (now (s .entry)) used) ⌝ }
+{
+    let mut i = 0;
+    let mut n = 0;
+    while i < used {
+        if is_gone(s, i) {
+            i += 1;
+        } else {
+            i += 1;
+            n += 1;
+        }
+    }
+    n
+}
+
+// Moves the records together, in order, and returns how many there are.
+fn compact(s: &mut [u64], used: usize) -> usize
+    requires { ⌜ BoxesOk (now s) used ⌝ }
+    ensures { λ r. ⌜ Compacted (now (s .entry)) (now (s .exit)) used r ⌝ }
+{
+    let mut w = 0;
+    let mut r = 0;
     while r < used {
-        if is_owner(s, r, owner) {
+        if is_gone(s, r) {
             r += 1;
         } else {
             move_box(s, r, w);
@@ -66,13 +108,38 @@ pub fn drop_from(s: &mut [u64], used: usize, owner: Id, from: usize) -> usize
     w
 }
 
-// All records that a transaction owns go.
-pub fn drop_owner(s: &mut [u64], used: usize, owner: Id) -> usize
+// Whether so many slots are vacated that searches take longer for it: four of some sixteen that stand apart from each other. What it answers
+// changes no record.
+fn is_sparse(s: &[u64], used: usize) -> bool
     requires { ⌜ BoxesOk (now s) used ⌝ }
-    ensures { λ r. ⌜ Dropped (now (s .entry)) (now (s .exit)) used r (idOf owner) ⌝ }
 {
-    let from = first_owned(s, used, owner);
-    drop_from(s, used, owner, from)
+    let step = used / 16 + 1;
+    let mut at = 0;
+    let mut n: usize = 0;
+    while at < used {
+        if is_gone(s, at) {
+            n += 1;
+            at += step;
+        } else {
+            at += step;
+        }
+    }
+    4 <= n
+}
+
+// Sees to it that so many more records have room behind the used slots, and returns how many are used then. The records stay what they are.
+pub fn make_room(s: &mut [u64], used: usize, needed: usize) -> usize
+    requires { ⌜ BoxesOk (now s) used ⌝ }
+    requires { ⌜ length (boxesOf (now s) used) + needed ≤ boxesRoom (now s) ⌝ }
+    ensures { λ r. ⌜ Roomy (now (s .entry)) (now (s .exit)) used r needed ⌝ }
+{
+    if boxes_room(s) - used < needed {
+        return compact(s, used);
+    }
+    if is_sparse(s, used) {
+        return compact(s, used);
+    }
+    used
 }
 
 // ---- a transaction enters
@@ -120,7 +187,7 @@ fn hide_one(
     requires { ⌜ BoxesOk (now s) (at + 1) ⌝ }
     requires { ⌜ (4 ≤ «in_width») × (4 ≤ «out_width») ⌝ }
     requires { ⌜ (2048 ≤ length (now marks)) × Marked (now marks) (idsOf «in_width» (now inputs)) (idsOf «out_width» (now outputs)) ⌝ }
-    ensures { λ _. ⌜ ((m : ℕ) → boxesOf (now (s .exit)) m ≡ set (boxesOf (now (s .entry)) m) at (hideTx (idsOf «in_width» (now (inputs .entry))) (idsOf «out_width» (now (outputs .entry))) (boxAt (now (s .entry)) at))) ⌝ }
+    ensures { λ _. ⌜ ((m : ℕ) → slotsOf (now (s .exit)) m ≡ set (slotsOf (now (s .entry)) m) at (hideSlot (idsOf «in_width» (now (inputs .entry))) (idsOf «out_width» (now (outputs .entry))) (slotAt (now (s .entry)) at))) ⌝ }
 {
     if overtaken(s, at, marks, inputs, in_width, outputs, out_width) {
         hide_box(s, at);
@@ -180,7 +247,7 @@ fn write_record(
 )
     requires { ⌜ BoxesOk (now tail) (at + 1) ⌝ }
     requires { ⌜ (4 ≤ width) × (i < countOf width (now list)) ⌝ }
-    ensures { λ _. ⌜ ((m : ℕ) → boxesOf (now (tail .exit)) m ≡ set (boxesOf (now (tail .entry)) m) at (newBox out (idOf owner) (idAt (now (list .entry)) (i * width)) (drop (i + 1) (idsOf width (now (list .entry)))))) ⌝ }
+    ensures { λ _. ⌜ ((m : ℕ) → slotsOf (now (tail .exit)) m ≡ set (slotsOf (now (tail .entry)) m) at (solid (newBox out (idOf owner) (idAt (now (list .entry)) (i * width)) (drop (i + 1) (idsOf width (now (list .entry))))))) ⌝ }
 {
     let key = id_at(list, width, i);
     let again = among(list, width, i + 1, count_of(list, width), key);
@@ -229,13 +296,13 @@ fn write_records(
 ) -> usize
     requires { ⌜ BoxesOk (now tail) (countOf «in_width» (now inputs) + countOf «out_width» (now outputs)) ⌝ }
     requires { ⌜ (4 ≤ «in_width») × (4 ≤ «out_width») ⌝ }
-    ensures { λ r. ⌜ (r ≡ countOf «in_width» (now (inputs .entry)) + countOf «out_width» (now (outputs .entry))) × (boxesOf (now (tail .exit)) r ≡ newBoxes false (idOf owner) (idsOf «in_width» (now (inputs .entry))) ++ newBoxes true (idOf owner) (idsOf «out_width» (now (outputs .entry)))) ⌝ }
+    ensures { λ r. ⌜ (r ≡ countOf «in_width» (now (inputs .entry)) + countOf «out_width» (now (outputs .entry))) × (slotsOf (now (tail .exit)) r ≡ map solid (newBoxes false (idOf owner) (idsOf «in_width» (now (inputs .entry))) ++ newBoxes true (idOf owner) (idsOf «out_width» (now (outputs .entry))))) ⌝ }
 {
     let at = write_list(tail, 0, owner, false, inputs, in_width);
     write_list(tail, at, owner, true, outputs, out_width)
 }
 
-// A newcomer's records stand behind the used ones: the free tail is lent to their writer. Returns how many records are used then.
+// A newcomer's records stand behind the used ones: the part of the area that is free is lent to their writer. Returns how many records are used then.
 pub fn write_behind(
     s: &mut [u64],
     used: usize,
@@ -249,8 +316,17 @@ pub fn write_behind(
     requires { ⌜ (4 ≤ «in_width») × (4 ≤ «out_width») ⌝ }
     ensures { λ r. ⌜ Behind (now (s .entry)) (now (s .exit)) used (countOf «in_width» (now (inputs .entry)) + countOf «out_width» (now (outputs .entry))) r (idOf owner) (idsOf «in_width» (now (inputs .entry))) (idsOf «out_width» (now (outputs .entry))) ⌝ }
 {
-    let from = used * 10;
-    used + write_records(&mut s[from..], owner, inputs, in_width, outputs, out_width)
+    let from = used * 8;
+    let to = s.len() - used * 2;
+    used
+        + write_records(
+            &mut s[from..to],
+            owner,
+            inputs,
+            in_width,
+            outputs,
+            out_width,
+        )
 }
 
 // A transaction's records enter: older ones of its boxes are hidden, and the new ones stand behind them. Returns how many records are used

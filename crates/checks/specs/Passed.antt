@@ -21,7 +21,7 @@ use Rattle.peers.specs.declared.Standing.{Standing}
 use Rattle.entries.specs.Entries.{Entry, pooled}
 use Rattle.entries.specs.Layout.{entriesOf, entriesRoom}
 use Rattle.boxes.specs.Layout.{boxesRoom}
-use Rattle.pool.specs.Pool.{tablesOf, Room}
+use Rattle.pool.specs.Pool.{tablesOf, PoolFits, Room}
 use Rattle.pool.specs.Laws.{room-left}
 use Rattle.checks.specs.Checks.{dear, remote, first, callRefusal, peerRefusal, stateRefusal, listRefusal, refusalOf}
 
@@ -114,9 +114,9 @@ module _ (st : Mempool) (rows : List Held) (es : List Entry) (at : Standing) (a 
       (q .0, λ r. greeted (sym (yes _ _ _ r) ∙ q .1))
 
 pub passed : (most : ℕ) (e b : List ℕ) (st : Mempool) (room : ℕ) (rows : List Held) (at : Standing) (a : Submission) (ins outs : List ℕ)
-    → refusalOf most (entriesRoom e) (boxesRoom b) st room (tablesOf e b (st .counts)) rows at a ins outs ≡ 0 → Passed most e b st room at a ins outs
+    → PoolFits e b (st .counts) → refusalOf most (entriesRoom e) (boxesRoom b) st room (tablesOf e b (st .counts)) rows at a ins outs ≡ 0 → Passed most e b st room at a ins outs
 unfolding refusalOf listRefusal
-passed most e b st room rows at a ins outs h =
+passed most e b st room rows at a ins outs f h =
     let p = both-zero _ _ h in
     let q = both-zero _ _ (p .1) in
     let k = called st room a ins outs (p .0) in
@@ -135,7 +135,7 @@ passed most e b st room rows at a ins outs h =
       new = s .0;
       welcome = s .1;
       few = ltb-false _ _ (t .0);
-      free = room-left e b (st .counts) _ (u .0);
+      free = room-left e b (st .counts) _ f (u .0);
     }
 
 -- so the fee is the sum that `extract_fee` gives

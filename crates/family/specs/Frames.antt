@@ -1,4 +1,4 @@
--- The walk's stack in words: frames of five, a transaction's id and how many of the first records still hold inputs to
+-- The walk's stack in words: frames of five, a transaction's id and how many of the first slots still hold inputs to
 -- be looked at.
 use Prim.Native.Nat.{ℕ, _+_, _*_, _≤_}
 use mathlib.Core.Path.{_≡_, refl, ap, _∙_}

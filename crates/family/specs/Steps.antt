@@ -1,10 +1,11 @@
--- What the walk's functions leave: words of the entries before and after, words of the frames before and after, over box records rs.
+-- What the walk's functions leave: words of the entries before and after, words of the frames before and after, over the slots rs of the box records.
 use Prim.Native.Nat.{ℕ, _+_, _-_, _≤_, _<_}
 use mathlib.Core.Path.{_≡_, sym, ap, _∙_}
 use mathlib.Core.Bool.{true}
 use mathlib.Core.List.{List, [], _∷_, _++_, reverseAux}
 use native.Mathlib.Omega.{arith}
 use lib.ListN.{length, set}
+use Rattle.words.specs.Lists.{flat}
 use Rattle.words.specs.Tables.{of-suc, of-none, put-end}
 use Rattle.words.specs.Ids.{idOf}
 use Rattle.words.specs.declared.ids.Id.{Id}
@@ -13,13 +14,14 @@ use Rattle.entries.specs.Entries.{credit}
 use Rattle.entries.specs.Layout.{EntriesOk, entriesOf}
 use Rattle.entries.specs.Layout.{Left as Rows}
 use Rattle.boxes.specs.Records.{BoxRec, index, lookup, parents}
-use Rattle.boxes.specs.Layout.{boxesOf, boxes}
+use Rattle.boxes.specs.Layout.{boxesOf, rowsOf, rows, index-rows, inputs-rows}
 use Rattle.indexes.specs.Parents.{linksOf, lastParent, lookup-one, last-none, last-push}
 use Rattle.indexes.specs.declared.inputs.Parent.{Parent}
 use Rattle.indexes.specs.declared.inputs.Parent.the-variants.{Of, NoParent}
 use Rattle.pool.specs.Pool.{PoolFits, Left, Tables, tablesOf, credits}
 use Rattle.family.specs.Frames.{Todo, todoOf, frameAt, framesOf, frames, FramesOk, ok-fewer, ok-still}
 use Rattle.family.specs.Walk.{visits}
+use Rattle.family.specs.Chains.{walked}
 use Rattle.family.specs.Turns.{visits-none, todo, whole, rest, rest-all, rest-none, rest-pop, rest-visit}
 use Rattle.family.specs.Family.{propagated}
 use Rattle.family.specs.declared.Progress.{Progress}
@@ -115,25 +117,29 @@ module _ (e₀ e fs₀ fs : List ℕ) (rs : List BoxRec) (n c : ℕ) (w₀ w : P
       let z : w .depth ≡ 0 = omega arith in
       sym (rest-none rs c (w .budget) (entriesOf e n)) ∙ ap (λ (ts : List Todo). rest rs c (w .budget) ts (entriesOf e n)) (sym (ap (framesOf fs) z ∙ of-none frames fs)) ∙ k .same
 
+-- those that are gone are nobody's parents
+parents-rows : (l : List ℕ) (n : ℕ) → parents (rowsOf l n) ≡ parents (boxesOf l n)
+parents-rows l n = λ i k. flat (lookup (index-rows true l n i)) (inputs-rows k l n i)
+
 -- it began with the frame of k alone and ended with none
 pub walked-whole : (e e' b fs fs₀ fs' : List ℕ) (x : Counts) (k : Id) (m c : ℕ) (w : Progress) → PoolFits e b x
     → ((i : ℕ) → framesOf fs₀ i ≡ set (framesOf fs i) 0 (todoOf (record { id = k; bound = x .records })))
-    → w .depth ≤ 0 → Walking e e' fs₀ fs' (boxesOf b (x .records)) (x .pooled) c (record { depth = 1; budget = m }) w
+    → w .depth ≤ 0 → Walking e e' fs₀ fs' (rowsOf b (x .records)) (x .pooled) c (record { depth = 1; budget = m }) w
     → Left e' b x (propagated m c (idOf k) (tablesOf e b x))
 walked-whole e e' b fs fs₀ fs' x k m c w f s h g =
     record {
       fits = record { entries = g .ok; boxes = f .boxes };
-      tables = λ t. record { entries = (walk-end e e' fs₀ fs' rs n c _ w g h ∙ ap (λ (ts : List Todo). rest rs c m ts (entriesOf e n)) first ∙ rest-all rs c m (idOf k) (entriesOf e n)) t; boxes = rs };
+      tables = λ t. record { entries = (walk-end e e' fs₀ fs' rs n c _ w g h ∙ ap (λ (ts : List Todo). rest rs c m ts (entriesOf e n)) first ∙ rest-all rs c m (idOf k) (entriesOf e n) ∙ ap (λ (f : ℕ → List ℕ). credits c (walked f m (idOf k)) (entriesOf e n)) (parents-rows b (x .records))) t; boxes = boxesOf b (x .records) };
     }
   where
     rs : List BoxRec
-    rs = boxesOf b (x .records)
+    rs = rowsOf b (x .records)
 
     n : ℕ
     n = x .pooled
 
     first : framesOf fs₀ 1 ≡ whole rs (idOf k) ∷ []
-    first = put-end frames fs fs₀ 0 _ s ∙ rw (of-none frames fs, opened rs k (x .records) (sym (boxes .len b (x .records))))
+    first = put-end frames fs fs₀ 0 _ s ∙ rw (of-none frames fs, opened rs k (x .records) (sym (rows .len b (x .records))))
 
 -- one that has no parent credits nobody
 pub propagated-none : (m c k : ℕ) (t : Tables) → parents (t .boxes) k ≡ [] → propagated m c k t ≡ t

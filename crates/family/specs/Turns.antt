@@ -1,4 +1,4 @@
--- The walk by frames (docs/DECISIONS.md, D19). A frame stands for the parents that the inputs of its transaction in the first records
+-- The walk by frames (docs/DECISIONS.md, D19). A frame stands for the parents that the inputs of its transaction in the first slots
 -- still give; the frames together stand for the stack of parents, the last frame on top. A turn looks at the last frame: it pops it, or visits its last parent.
 use Prim.Native.Nat.{ℕ, zero, suc, _+_, _-_, _<_}
 use mathlib.Core.Path.{_≡_, refl, sym, ap}

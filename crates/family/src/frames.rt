@@ -1,4 +1,4 @@
-// The words of the walk's stack: five for each frame, a transaction's id and a number of records: its inputs in so many of the first
+// The words of the walk's stack: five for each frame, a transaction's id and a number of slots: its inputs in so many of the first
 // ones are still to be looked at. Only the functions of this file know the layout.
 use words::ids::Id;
 use words::ids::load_id;

@@ -11,7 +11,7 @@ use pool_types::Counts;
 use words::ids::Id;
 ghost use Prim.Native.Nat.{_+_, _<_};
 ghost use Rattle.words.specs.Ids.{idOf};
-ghost use Rattle.boxes.specs.Layout.{boxesOf};
+ghost use Rattle.boxes.specs.Layout.{rowsOf};
 ghost use Rattle.pool.specs.Pool.{PoolFits, Left, tablesOf};
 ghost use Rattle.family.specs.Frames.{FramesOk, todoOf};
 ghost use Rattle.family.specs.Steps.{Visited, Turned};
@@ -44,7 +44,7 @@ fn visit(
 )
     requires { ⌜ PoolFits (now entries) (now boxes) counts ⌝ }
     requires { ⌜ (0 < depth) × FramesOk (now frames) (depth + 1) ⌝ }
-    ensures { λ _. ⌜ Visited (now (entries .entry)) (now (entries .exit)) (now (frames .entry)) (now (frames .exit)) (boxesOf (now (boxes .entry)) (counts .records)) (counts .pooled) depth amount (idOf parent) (todoOf child) ⌝ }
+    ensures { λ _. ⌜ Visited (now (entries .entry)) (now (entries .exit)) (now (frames .entry)) (now (frames .exit)) (rowsOf (now (boxes .entry)) (counts .records)) (counts .pooled) depth amount (idOf parent) (todoOf child) ⌝ }
 {
     credit_entry(entries, counts.pooled, parent, amount);
     store_frame(frames, depth - 1, child);
@@ -63,7 +63,7 @@ fn turn(
 ) -> Progress
     requires { ⌜ PoolFits (now entries) (now boxes) counts ⌝ }
     requires { ⌜ (0 < w .depth) × FramesOk (now frames) (w .depth + w .budget) ⌝ }
-    ensures { λ r. ⌜ Turned (now (entries .entry)) (now (entries .exit)) (now (frames .entry)) (now (frames .exit)) (boxesOf (now (boxes .entry)) (counts .records)) (counts .pooled) amount w r ⌝ }
+    ensures { λ r. ⌜ Turned (now (entries .entry)) (now (entries .exit)) (now (frames .entry)) (now (frames .exit)) (rowsOf (now (boxes .entry)) (counts .records)) (counts .pooled) amount w r ⌝ }
 {
     let top = load_frame(frames, w.depth - 1);
     match last_parent(boxes, counts.records, top.id, top.bound) {

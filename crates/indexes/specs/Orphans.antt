@@ -15,14 +15,14 @@ use Rattle.boxes.specs.Among.{among, among-cons}
 use Rattle.boxes.specs.IndexLaws.{inputs-split}
 use Rattle.boxes.specs.Entering.{overtakenBy}
 use Rattle.boxes.specs.Marks.{isMarked, Marking, Marked}
-use Rattle.boxes.specs.Layout.{boxAt, boxesOf, boxes}
+use Rattle.boxes.specs.Layout.{boxAt, rowsOf, rows}
 use Rattle.indexes.specs.Owners.{isEntry, lookup-miss, lookup-end}
 use Rattle.indexes.specs.Inputs.{input-yes, input-no, input-end, inputs-suc}
 use Rattle.indexes.specs.Spent.{flat-none}
 
--- the inputs of transaction k in the records from `from` on and before n
+-- the inputs of transaction k in the slots from `from` on and before n
 abbrev pub lastInputs : List ℕ → ℕ → ℕ → ℕ → List ℕ
-lastInputs l n k from = inputsOf k (drop from (boxesOf l n))
+lastInputs l n k from = inputsOf k (drop from (rowsOf l n))
 
 -- the record at index j produces none of these, and is no earlier input
 pub record Still (l : List ℕ) (n k from j : ℕ) : Type 0 where
@@ -37,7 +37,7 @@ never e = absurd (let y : _≡_ {A = ℕ} 0 1 = cc e in omega arith)
 
 pub record MarkedFrom (m l : List ℕ) (n k from i : ℕ) : Type 0 where
   pub size : 2048 ≤ length m
-  pub rest : (b : ℕ) → isMarked m b ≡ false → among b (inputsOf k (drop i (boxesOf l n))) ≡ false → among b (lastInputs l n k from) ≡ false
+  pub rest : (b : ℕ) → isMarked m b ≡ false → among b (inputsOf k (drop i (rowsOf l n))) ≡ false → among b (lastInputs l n k from) ≡ false
 
 module _ (l : List ℕ) (n k from : ℕ) where
   pub from-none : (m : List ℕ) → 2048 ≤ length m → MarkedFrom m l n k from from
@@ -47,7 +47,7 @@ module _ (l : List ℕ) (n k from : ℕ) where
   from-yes m m' i x h t e g a f =
       record {
         size = omega (arith, f .size);
-        rest = λ b q z. f .rest b (a .before b q) (rw (input-yes l n i h k t, ← e) (both b x (inputsOf k (drop (i + 1) (boxesOf l n))) (a .new b q) z));
+        rest = λ b q z. f .rest b (a .before b q) (rw (input-yes l n i h k t, ← e) (both b x (inputsOf k (drop (i + 1) (rowsOf l n))) (a .new b q) z));
       }
     where
       both : (b x : ℕ) (xs : List ℕ) → among b (x ∷ []) ≡ false → among b xs ≡ false → among b (x ∷ xs) ≡ false
@@ -66,13 +66,13 @@ module _ (l : List ℕ) (n k from : ℕ) where
 -- ---- whether a box is one of them
 
 module _ (l : List ℕ) (n i : ℕ) (h : i < n) (k b x : ℕ) (t : isInput k (boxAt l i) ≡ true) (e : x ≡ boxAt l i .box) where
-  listed-here : among b (inputsOf k (drop i (boxesOf l n))) ≡ (eqb x b || among b (inputsOf k (drop (i + 1) (boxesOf l n))))
-  listed-here = rw (input-yes l n i h k t, e) (among-cons b (boxAt l i .box) (inputsOf k (drop (i + 1) (boxesOf l n))))
+  listed-here : among b (inputsOf k (drop i (rowsOf l n))) ≡ (eqb x b || among b (inputsOf k (drop (i + 1) (rowsOf l n))))
+  listed-here = rw (input-yes l n i h k t, e) (among-cons b (boxAt l i .box) (inputsOf k (drop (i + 1) (rowsOf l n))))
 
-  pub listed-hit : eqb x b ≡ true → among b (inputsOf k (drop i (boxesOf l n))) ≡ true
+  pub listed-hit : eqb x b ≡ true → among b (inputsOf k (drop i (rowsOf l n))) ≡ true
   listed-hit q = listed-here ∙ rw q
 
-  pub listed-on : eqb x b ≡ false → among b (inputsOf k (drop i (boxesOf l n))) ≡ among b (inputsOf k (drop (i + 1) (boxesOf l n)))
+  pub listed-on : eqb x b ≡ false → among b (inputsOf k (drop i (rowsOf l n))) ≡ among b (inputsOf k (drop (i + 1) (rowsOf l n)))
   listed-on q = listed-here ∙ rw q
 
 -- ---- no producer: no parent
@@ -90,29 +90,29 @@ no-entry outs b r h e = go (eqb (r .box) b) refl (r .live) (r .out) e
 
 module _ (l : List ℕ) (used n k from : ℕ) (s : (j : ℕ) → j < used → Still l n k from j) where
   -- the records from i on, as many as d
-  no-maker : (b : ℕ) → among b (lastInputs l n k from) ≡ true → (d i : ℕ) → used ≤ i + d → lookup (index true (drop i (boxesOf l used))) b ≡ []
+  no-maker : (b : ℕ) → among b (lastInputs l n k from) ≡ true → (d i : ℕ) → used ≤ i + d → lookup (index true (drop i (rowsOf l used))) b ≡ []
   no-maker b h zero i g = lookup-end l used i (omega arith) true b
   no-maker b h (suc d) i g = go (native.Mathlib.Decide.decLt i used) (no-maker b h d (i + 1) (omega arith))
     where
-      go : Dec (i < used) → lookup (index true (drop (i + 1) (boxesOf l used))) b ≡ [] → lookup (index true (drop i (boxesOf l used))) b ≡ []
+      go : Dec (i < used) → lookup (index true (drop (i + 1) (rowsOf l used))) b ≡ [] → lookup (index true (drop i (rowsOf l used))) b ≡ []
       go (yes q) ih = lookup-miss l used i q true b (no-entry (lastInputs l n k from) b (boxAt l i) h (s i q .made)) ∙ ih
       go (no q) ih = lookup-end l used i (omega (arith, q)) true b
 
-  none-earlier : (d : ℕ) → d ≤ from → d ≤ used → inputsOf k (boxesOf l d) ≡ []
-  none-earlier zero h g = rw (of-none boxes l)
+  none-earlier : (d : ℕ) → d ≤ from → d ≤ used → inputsOf k (rowsOf l d) ≡ []
+  none-earlier zero h g = rw (of-none rows l)
   none-earlier (suc d) h g =
       rw (← add-one d)
       (inputs-suc l d k
       ∙ ap (λ (xs : List ℕ). xs ++ pick (isInput k (boxAt l d)) (boxAt l d .box ∷ []) []) (none-earlier d (omega arith) (omega arith))
       ∙ ap (λ (t : Bool). pick t (boxAt l d .box ∷ []) []) (s d (omega arith) .low (omega arith)))
 
-  pub no-parents : from ≤ n → n ≤ used → flat (lookup (index true (boxesOf l used))) (inputsOf k (boxesOf l n)) ≡ []
+  pub no-parents : from ≤ n → n ≤ used → flat (lookup (index true (rowsOf l used))) (inputsOf k (rowsOf l n)) ≡ []
   no-parents h g =
       rw split
-      (flat-none (lookup (index true (boxesOf l used))) (lastInputs l n k from) (λ b q. no-maker b q used 0 (omega arith)))
+      (flat-none (lookup (index true (rowsOf l used))) (lastInputs l n k from) (λ b q. no-maker b q used 0 (omega arith)))
     where
-      split : inputsOf k (boxesOf l n) ≡ lastInputs l n k from
+      split : inputsOf k (rowsOf l n) ≡ lastInputs l n k from
       split =
-          sym (ap (inputsOf k) (take-append-drop from (boxesOf l n)))
-          ∙ inputs-split k (take from (boxesOf l n)) (drop from (boxesOf l n))
-          ∙ ap (λ (xs : List ℕ). xs ++ lastInputs l n k from) (ap (inputsOf k) (boxes .first l from n h) ∙ none-earlier from (omega arith) (omega arith))
+          sym (ap (inputsOf k) (take-append-drop from (rowsOf l n)))
+          ∙ inputs-split k (take from (rowsOf l n)) (drop from (rowsOf l n))
+          ∙ ap (λ (xs : List ℕ). xs ++ lastInputs l n k from) (ap (inputsOf k) (rows .first l from n h) ∙ none-earlier from (omega arith) (omega arith))

@@ -1,6 +1,6 @@
 -- Looking up an index record by record.
 use Prim.Native.Nat.{ℕ, _+_, _≤_, _<_}
-use mathlib.Core.Path.{_≡_, refl, _∙_}
+use mathlib.Core.Path.{_≡_, refl, ap, _∙_}
 use mathlib.Core.Bool.{Bool, true, false, _&&_}
 use mathlib.Core.List.{List, [], _∷_}
 use lib.Dec.{eqb}
@@ -8,8 +8,8 @@ use lib.ListN.{drop}
 use Rattle.words.specs.Lists.{pick}
 use Rattle.words.specs.Ids.{idOf}
 use Rattle.words.specs.Tables.{drop-of, drop-past}
-use Rattle.boxes.specs.Records.{BoxRec, same, index, lookup}
-use Rattle.boxes.specs.Layout.{boxAt, boxesOf, boxes}
+use Rattle.boxes.specs.Records.{BoxRec, Pair, same, index, lookup}
+use Rattle.boxes.specs.Layout.{boxAt, boxesOf, rowsOf, rows, index-rows}
 use Rattle.indexes.specs.declared.owners.Owner.{Owner}
 use Rattle.indexes.specs.declared.owners.Owner.the-variants.{By, Nobody}
 
@@ -50,14 +50,18 @@ lookup-cons o k r rs = go (r .live && same o (r .out)) (eqb (r .box) k) refl
     go false false q = refl
 
 module _ (l : List ℕ) (n i : ℕ) (h : i < n) (o : Bool) (k : ℕ) where
-  lookup-here : lookup (index o (drop i (boxesOf l n))) k ≡ pick (isEntry o k (boxAt l i)) (boxAt l i .owner ∷ []) (lookup (index o (drop (i + 1) (boxesOf l n))) k)
-  lookup-here = rw (drop-of boxes l n i h) (lookup-cons o k (boxAt l i) (drop (i + 1) (boxesOf l n)))
+  lookup-here : lookup (index o (drop i (rowsOf l n))) k ≡ pick (isEntry o k (boxAt l i)) (boxAt l i .owner ∷ []) (lookup (index o (drop (i + 1) (rowsOf l n))) k)
+  lookup-here = rw (drop-of rows l n i h) (lookup-cons o k (boxAt l i) (drop (i + 1) (rowsOf l n)))
 
-  pub lookup-hit : isEntry o k (boxAt l i) ≡ true → lookup (index o (drop i (boxesOf l n))) k ≡ boxAt l i .owner ∷ []
+  pub lookup-hit : isEntry o k (boxAt l i) ≡ true → lookup (index o (drop i (rowsOf l n))) k ≡ boxAt l i .owner ∷ []
   lookup-hit t = lookup-here ∙ rw t
 
-  pub lookup-miss : isEntry o k (boxAt l i) ≡ false → lookup (index o (drop i (boxesOf l n))) k ≡ lookup (index o (drop (i + 1) (boxesOf l n))) k
+  pub lookup-miss : isEntry o k (boxAt l i) ≡ false → lookup (index o (drop i (rowsOf l n))) k ≡ lookup (index o (drop (i + 1) (rowsOf l n))) k
   lookup-miss t = lookup-here ∙ rw t
 
-pub lookup-end : (l : List ℕ) (n i : ℕ) → n ≤ i → (o : Bool) (k : ℕ) → lookup (index o (drop i (boxesOf l n))) k ≡ []
-lookup-end l n i h o k = rw (drop-past boxes l n i h)
+pub lookup-end : (l : List ℕ) (n i : ℕ) → n ≤ i → (o : Bool) (k : ℕ) → lookup (index o (drop i (rowsOf l n))) k ≡ []
+lookup-end l n i h o k = rw (drop-past rows l n i h)
+
+-- those that are gone have no entry
+pub lookup-rows : (o : Bool) (l : List ℕ) (n k : ℕ) → lookup (index o (rowsOf l n)) k ≡ lookup (index o (boxesOf l n)) k
+lookup-rows o l n k = ap (λ (ps : List Pair). lookup ps k) (index-rows o l n)

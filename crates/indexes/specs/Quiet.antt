@@ -1,26 +1,25 @@
 -- That a newcomer stands alone: no record is its own or of one of its boxes, and it spends nothing that it makes. Then nothing is in conflict
 -- with it, nothing is hidden for it, and it has no parent.
-use Prim.Native.Nat.{ℕ, zero, suc, _+_, _*_, _≤_, _<_}
+use Prim.Native.Nat.{ℕ, _+_, _*_, _%_, _≤_, _<_}
 use mathlib.Core.Path.{_≡_, refl, sym, ap, ap₂, subst, _∙_}
 use mathlib.Core.Bool.{Bool, true, false, not, _&&_, _||_, and-false}
 use mathlib.Core.List.{List, [], _∷_, _++_, map}
-use native.Mathlib.Numerals.{add-one}
 use native.Mathlib.Decide.{decLt}
 use native.Mathlib.Omega.{arith}
 use lib.Dec.{eqb}
-use lib.ListN.{drop}
-use borrow.Author.Tests.{eqb-true, eq-eqb}
-use Rattle.words.specs.Lists.{pick, keep, other, count, flat}
-use Rattle.words.specs.Tables.{of-none, of-suc}
+use lib.ListN.{getD, drop}
+use borrow.Author.Tests.{eqb-true}
+use Rattle.words.specs.Lists.{pick, keep, other, flat}
 use Rattle.words.specs.Ids.{idAt}
 use Rattle.boxes.specs.Records.{BoxRec, Pair, index, lookup, conflicts, parents, enterTx}
-use Rattle.boxes.specs.Among.{among, among-cons}
+use Rattle.boxes.specs.Among.{among, among-cons, eqb-comm}
 use Rattle.boxes.specs.IndexLaws.{Unowned, enterPair, enterPairs, inputs-own, producers-enter}
 use Rattle.boxes.specs.Entering.{overtakenBy, hideTx, hide-no}
 use Rattle.boxes.specs.Marks.{Marked, isMarked}
 use Rattle.boxes.specs.Flat.{countOf, idsOf, among-miss, among-end}
-use Rattle.boxes.specs.Layout.{boxAt, boxesOf, boxes}
-use Rattle.boxes.specs.Clear.{Clear, clear-none, clear-more}
+use Rattle.boxes.specs.Layout.{boxAt, boxesOf, boxes-each}
+use Rattle.boxes.specs.Clear.{Clear}
+use Rattle.boxes.specs.Each.{Each}
 use Rattle.indexes.specs.Owners.{isEntry, lookup-cons}
 use Rattle.indexes.specs.Spent.{flat-none}
 
@@ -31,8 +30,7 @@ pub record Apart (k : ℕ) (ins outs : List ℕ) (r : BoxRec) : Type 0 where
   pub output : among (r .box) outs ≡ false
 
 abbrev pub Alone : ℕ → List ℕ → List ℕ → List BoxRec → Type 0
-Alone k ins outs [] = Unit {0}
-Alone k ins outs (r ∷ rs) = Apart k ins outs r × Alone k ins outs rs
+Alone k ins outs rs = Each (Apart k ins outs) rs
 
 -- ---- what follows
 
@@ -102,17 +100,67 @@ alone-parents k ins outs d rs a =
     ap₂ (λ (ps : List Pair) (bs : List ℕ). flat (lookup ps) bs) (producers-enter k ins outs rs) (inputs-own k ins outs rs (unowned k ins outs rs a))
     ∙ flat-none (lookup (enterPairs k outs (index true rs))) ins (λ b h. lookup-pairs k b outs (d b h) (index true rs) (lookup-alone k ins outs rs a true b h))
 
--- ---- the code's scan: the records from `from` on and before r are apart, and another than `low` owns them
+-- ---- slots that have no mark
+
+-- the box of slot j is not marked in m, and its owner is not in o
+pub record Far (l m o : List ℕ) (j : ℕ) : Type 0 where
+  pub box : isMarked m (boxAt l j .box) ≡ false
+  pub owner : isMarked o (boxAt l j .owner) ≡ false
+
+-- the slots from `from` on and before r have none
+pub record Skipped (l m o : List ℕ) (used from r : ℕ) : Type 0 where
+  pub low : from ≤ r
+  pub high : r ≤ used
+  pub far : (j : ℕ) → from ≤ j → j < r → Far l m o j
+
+-- a byte that is 0 is no mark
+unmarked : (m : List ℕ) (x k b : ℕ) → x ≡ k → b ≡ getD m (x % 2048) 0 → b ≡ 0 → isMarked m k ≡ false
+unfolding isMarked
+unmarked m x k b e q z = ap (λ (i : ℕ). not (eqb (getD m (i % 2048) 0) 0)) (sym e) ∙ ap (λ (w : ℕ). not (eqb w 0)) (sym q ∙ z)
+
+module _ (l m o : List ℕ) where
+  pub sum-far : (at x y b c : ℕ) → x ≡ boxAt l at .box → y ≡ boxAt l at .owner → b ≡ getD m (x % 2048) 0 → c ≡ getD o (y % 2048) 0 → b + c ≡ 0 → Far l m o at
+  sum-far at x y b c e f p q z = record { box = unmarked m x (boxAt l at .box) b e p (omega arith); owner = unmarked o y (boxAt l at .owner) c f q (omega arith) }
+
+  pub four-far : (at x y z w : ℕ) → (x ≡ 0 → Far l m o at) → (y ≡ 0 → Far l m o (at + 1)) → (z ≡ 0 → Far l m o (at + 2)) → (w ≡ 0 → Far l m o (at + 3)) → x + y + z + w ≡ 0 → (j : ℕ) → at ≤ j → j < at + 4 → Far l m o j
+  four-far at x y z w a b c d e j h g = go (decLt j (at + 1)) (decLt j (at + 2)) (decLt j (at + 3))
+    where
+      go : Dec (j < at + 1) → Dec (j < at + 2) → Dec (j < at + 3) → Far l m o j
+      go (yes p) q r = let t : at ≡ j = omega arith in subst (Far l m o) t (a (omega arith))
+      go (no p) (yes q) r = let t : at + 1 ≡ j = omega (arith, p) in subst (Far l m o) t (b (omega arith))
+      go (no p) (no q) (yes r) = let t : at + 2 ≡ j = omega (arith, q) in subst (Far l m o) t (c (omega arith))
+      go (no p) (no q) (no r) = let t : at + 3 ≡ j = omega (arith, r) in subst (Far l m o) t (d (omega arith))
+
+  pub skip-none : (used from : ℕ) → from ≤ used → Skipped l m o used from from
+  skip-none used from h = record { low = omega arith; high = h; far = λ j a b. absurd (omega arith) }
+
+  pub skip-four : (used from r : ℕ) → r + 4 ≤ used → Skipped l m o used from r → ((j : ℕ) → r ≤ j → j < r + 4 → Far l m o j) → Skipped l m o used from (r + 4)
+  skip-four used from r h s f = record { low = omega (arith, s .low); high = h; far = λ j a b. go j a b (decLt j r) }
+    where
+      go : (j : ℕ) → from ≤ j → j < r + 4 → Dec (j < r) → Far l m o j
+      go j a b (yes q) = s .far j a q
+      go j a b (no q) = f j (omega (arith, q)) b
+
+-- ---- the code's scan: the slots from `from` on and before r are apart, and another than `low` owns them
 
 pub record Run (l : List ℕ) (used from r k low : ℕ) (ins outs : List ℕ) : Type 0 where
+  pub rise : from ≤ r
   pub high : r ≤ used
   pub apart : (j : ℕ) → from ≤ j → j < r → Apart k ins outs (boxAt l j)
   pub clear : (j : ℕ) → from ≤ j → j < r → eqb (boxAt l j .owner) low ≡ false
 
--- what it says of all: the newcomer stands alone, and `low` owns none of the first `from`
-pub record Quietly (l : List ℕ) (used from k low : ℕ) (ins outs : List ℕ) : Type 0 where
-  pub high : from ≤ used
-  pub clear : Clear l low from
+-- the slots from `from` on and before r are apart, whoever owns them
+pub record Block (l : List ℕ) (used from r k : ℕ) (ins outs : List ℕ) : Type 0 where
+  pub rise : from ≤ r
+  pub high : r ≤ used
+  pub apart : (j : ℕ) → from ≤ j → j < r → Apart k ins outs (boxAt l j)
+
+-- what it says of all: the newcomer stands alone, and `low` owns none of the slots before `first`, and none from `last` on
+pub record Quietly (l : List ℕ) (used first last k low : ℕ) (ins outs : List ℕ) : Type 0 where
+  pub order : first ≤ last
+  pub high : last ≤ used
+  pub before : Clear l low 0 first
+  pub behind : Clear l low last used
   pub alone : Alone k ins outs (boxesOf l used)
   pub own : (b : ℕ) → among b ins ≡ true → among b outs ≡ false
 
@@ -124,48 +172,82 @@ upto P r j h f g = go (decLt j r)
     go (yes q) = f q
     go (no q) = let e : r ≡ j = omega (arith, q) in subst P e g
 
-module _ (l : List ℕ) (used from k low : ℕ) (ins outs : List ℕ) where
-  pub run-none : from ≤ used → Run l used from from k low ins outs
-  run-none h = record { high = h; apart = λ j a b. absurd (omega arith); clear = λ j a b. absurd (omega arith) }
+-- an owner that is not marked is neither of two
+not-one : (b x : ℕ) → among b (x ∷ []) ≡ false → eqb b x ≡ false
+not-one b x h = eqb-comm b x ∙ go (eqb x b) (sym (among-cons b x []) ∙ h)
+  where
+    go : (t : Bool) → (t || false) ≡ false → t ≡ false
+    go true z = z
+    go false z = z
 
-  pub run-more : (r x : ℕ) → r < used → x ≡ boxAt l r .owner → eqb x low ≡ false → Apart k ins outs (boxAt l r) → Run l used from r k low ins outs → Run l used from (r + 1) k low ins outs
+module _ (l m o : List ℕ) (k low : ℕ) (ins outs : List ℕ) (a : Marked m ins outs) (b : Marked o (k ∷ []) (low ∷ [])) (j : ℕ) (f : Far l m o j) where
+  far-apart : Apart k ins outs (boxAt l j)
+  far-apart = record { owner = not-one (boxAt l j .owner) k (b .no-input (boxAt l j .owner) (f .owner)); input = a .no-input (boxAt l j .box) (f .box); output = a .no-output (boxAt l j .box) (f .box) }
+
+  far-clear : eqb (boxAt l j .owner) low ≡ false
+  far-clear = not-one (boxAt l j .owner) low (b .no-output (boxAt l j .owner) (f .owner))
+
+module _ (l : List ℕ) (used from k low : ℕ) (ins outs : List ℕ) where
+  run-none : from ≤ used → Run l used from from k low ins outs
+  run-none h = record { rise = omega arith; high = h; apart = λ j a b. absurd (omega arith); clear = λ j a b. absurd (omega arith) }
+
+  run-more : (r x : ℕ) → r < used → x ≡ boxAt l r .owner → eqb x low ≡ false → Apart k ins outs (boxAt l r) → Run l used from r k low ins outs → Run l used from (r + 1) k low ins outs
   run-more r x h e t p s =
       record {
+        rise = omega (arith, s .rise);
         high = omega arith;
         apart = λ j a b. upto (λ (i : ℕ). Apart k ins outs (boxAt l i)) r j b (s .apart j a) p;
         clear = λ j a b. upto (λ (i : ℕ). eqb (boxAt l i .owner) low ≡ false) r j b (s .clear j a) (ap (λ (o : ℕ). eqb o low) (sym e) ∙ t);
       }
 
-module _ (l : List ℕ) (k : ℕ) where
-  all-clear : (n : ℕ) → ((j : ℕ) → j < n → eqb (boxAt l j .owner) k ≡ false) → Clear l k n
-  all-clear zero f = clear-none l k
-  all-clear (suc n) f = rw (← add-one n) (clear-more l k n (boxAt l n .owner) refl (f n (omega arith)) (all-clear n (λ j h. f j (omega arith))))
+  module _ (m o : List ℕ) (a : Marked m ins outs) (b : Marked o (k ∷ []) (low ∷ [])) where
+    skip-on : (r r' : ℕ) → Run l used from r k low ins outs → Skipped l m o used r r' → Run l used from r' k low ins outs
+    skip-on r r' p s =
+        record {
+          rise = omega (arith, p .rise, s .low);
+          high = s .high;
+          apart = λ j h g. apart j h g (decLt j r);
+          clear = λ j h g. clear j h g (decLt j r);
+        }
+      where
+        apart : (j : ℕ) → from ≤ j → j < r' → Dec (j < r) → Apart k ins outs (boxAt l j)
+        apart j h g (yes q) = p .apart j h q
+        apart j h g (no q) = far-apart l m o k low ins outs a b j (s .far j (omega (arith, q)) g)
 
-module _ (l : List ℕ) (k : ℕ) (ins outs : List ℕ) where
-  alone-last : (rs : List BoxRec) (r : BoxRec) → Alone k ins outs rs → Apart k ins outs r → Alone k ins outs (rs ++ (r ∷ []))
-  alone-last [] r a p = (p, tt)
-  alone-last (q ∷ rs) r a p = (a .0, alone-last rs r (a .1) p)
+        clear : (j : ℕ) → from ≤ j → j < r' → Dec (j < r) → eqb (boxAt l j .owner) low ≡ false
+        clear j h g (yes q) = p .clear j h q
+        clear j h g (no q) = far-clear l m o k low ins outs a b j (s .far j (omega (arith, q)) g)
 
-  all-alone : (n : ℕ) → ((j : ℕ) → j < n → Apart k ins outs (boxAt l j)) → Alone k ins outs (boxesOf l n)
-  all-alone zero f = subst (Alone k ins outs) (sym (of-none boxes l)) tt
-  all-alone (suc n) f =
-      let e : boxesOf l (suc n) ≡ boxesOf l n ++ (boxAt l n ∷ []) = ap (boxesOf l) (sym (add-one n)) ∙ of-suc boxes l n in
-      subst (Alone k ins outs) (sym e) (alone-last (boxesOf l n) (boxAt l n) (all-alone n (λ j h. f j (omega arith))) (f n (omega arith)))
+    pub run-first : (r : ℕ) → from ≤ used → Skipped l m o used from r → Run l used from r k low ins outs
+    run-first r h s = skip-on from r (run-none h) s
 
--- a scan to the first record of `low`, and one from there to the end
-pub quietly : (l : List ℕ) (used first last k low : ℕ) (ins outs : List ℕ) → Run l used 0 first k low ins outs → Run l used first last k k ins outs → used ≤ last → ((b : ℕ) → among b ins ≡ true → among b outs ≡ false)
-    → Quietly l used first k low ins outs
-quietly l used first last k low ins outs p q h d =
+    pub run-on : (r r' x : ℕ) → r < used → x ≡ boxAt l r .owner → eqb x low ≡ false → Apart k ins outs (boxAt l r) → Run l used from r k low ins outs → Skipped l m o used (r + 1) r' → Run l used from r' k low ins outs
+    run-on r r' x h e t p s z = skip-on (r + 1) r' (run-more r x h e t p s) z
+
+module _ (l : List ℕ) (used from k : ℕ) (ins outs : List ℕ) where
+  pub block-none : from ≤ used → Block l used from from k ins outs
+  block-none h = record { rise = omega arith; high = h; apart = λ j a b. absurd (omega arith) }
+
+  pub block-more : (r : ℕ) → r < used → Apart k ins outs (boxAt l r) → Block l used from r k ins outs → Block l used from (r + 1) k ins outs
+  block-more r h p s = record { rise = omega (arith, s .rise); high = omega arith; apart = λ j a b. upto (λ (i : ℕ). Apart k ins outs (boxAt l i)) r j b (s .apart j a) p }
+
+-- a scan to the first slot of `low`, its slots that stand together, and a scan from there to the end
+pub quietly : (l : List ℕ) (used first last stop k low : ℕ) (ins outs : List ℕ) → Run l used 0 first k low ins outs → Block l used first last k ins outs → Run l used last stop k low ins outs → used ≤ stop → ((b : ℕ) → among b ins ≡ true → among b outs ≡ false)
+    → Quietly l used first last k low ins outs
+quietly l used first last stop k low ins outs p q r h d =
     record {
-      high = p .high;
-      clear = all-clear l low first (λ j b. p .clear j (omega arith) b);
-      alone = all-alone l k ins outs used (λ j b. go j b (decLt j first));
+      order = q .rise;
+      high = q .high;
+      before = record { none = p .clear };
+      behind = record { none = λ j a b. r .clear j a (omega arith) };
+      alone = boxes-each (Apart k ins outs) l used (λ j b. go j b (decLt j first) (decLt j last));
       own = d;
     }
   where
-    go : (j : ℕ) → j < used → Dec (j < first) → Apart k ins outs (boxAt l j)
-    go j b (yes z) = p .apart j (omega arith) z
-    go j b (no z) = q .apart j (omega (arith, z)) (omega arith)
+    go : (j : ℕ) → j < used → Dec (j < first) → Dec (j < last) → Apart k ins outs (boxAt l j)
+    go j b (yes z) y = p .apart j (omega arith) z
+    go j b (no z) (yes y) = q .apart j (omega (arith, z)) y
+    go j b (no z) (no y) = r .apart j (omega (arith, y)) (omega arith)
 
 -- ---- one record, in the words of the code
 

@@ -15,7 +15,7 @@ use Rattle.words.specs.Ids.{idAt}
 use Rattle.words.specs.declared.ids.Id.{Id}
 use Rattle.boxes.specs.Records.{Pair, lookup, isInput, inputsOf}
 use Rattle.boxes.specs.Flat.{idsTo, idsOf}
-use Rattle.boxes.specs.Layout.{isSet, boxAt, boxesOf}
+use Rattle.boxes.specs.Layout.{isSet, boxAt, boxesOf, rowsOf, inputs-rows}
 use Rattle.indexes.specs.declared.owners.Owner.{Owner}
 use Rattle.indexes.specs.declared.owners.Owner.the-variants.{By, Nobody}
 use Rattle.indexes.specs.Owners.{ownerIds}
@@ -105,15 +105,15 @@ module _ (producers : List Pair) (l : List ℕ) (n j x : ℕ) (h : j < n) (e : x
 pub submitted-end : (producers : List Pair) (l : List ℕ) (n j : ℕ) → n ≤ j → allResolved producers (drop j (inputsTo l n)) ≡ true
 submitted-end producers l n j h = rw (drop-past inputs l n j h)
 
--- ---- the inputs of a pooled transaction with the flags ws, record by record: i records are read, and j flags
+-- ---- the inputs of a pooled transaction with the flags ws, slot by slot: i slots are read, and j flags
 
 pub record Reading (producers : List Pair) (l ws : List ℕ) (used k i j : ℕ) : Type 0 where
-  pub left : j + length (inputsOf k (drop i (boxesOf l used))) ≡ length ws
-  pub same : allResolved producers (flagged (inputsOf k (drop i (boxesOf l used))) (drop j ws)) ≡ allResolved producers (flagged (inputsOf k (boxesOf l used)) ws)
+  pub left : j + length (inputsOf k (drop i (rowsOf l used))) ≡ length ws
+  pub same : allResolved producers (flagged (inputsOf k (drop i (rowsOf l used))) (drop j ws)) ≡ allResolved producers (flagged (inputsOf k (boxesOf l used)) ws)
 
 module _ (producers : List Pair) (l ws : List ℕ) (used k : ℕ) where
   pub read-none : length ws ≡ length (inputsOf k (boxesOf l used)) → Reading producers l ws used k 0 0
-  read-none e = record { left = omega arith; same = refl }
+  read-none e = record { left = omega (arith, ap length (inputs-rows k l used)); same = ap (λ bs. allResolved producers (flagged bs ws)) (inputs-rows k l used) }
 
   pub read-end : (i j : ℕ) → used ≤ i → Reading producers l ws used k i j → true ≡ allResolved producers (flagged (inputsOf k (boxesOf l used)) ws)
   read-end i j h r = ap (λ bs. allResolved producers (flagged bs (drop j ws))) (sym (input-end l used i h k)) ∙ r .same
@@ -131,7 +131,7 @@ module _ (producers : List Pair) (l ws : List ℕ) (used k : ℕ) where
       read-more = omega (arith, r .left, ap length (input-yes l used i h k t))
 
       module _ (x : ℕ) (e : x ≡ boxAt l i .box) where
-        read-here : allResolved producers (flagged (inputsOf k (boxesOf l used)) ws) ≡ (resolvedBy producers (inputOf x (getD ws j 0)) && allResolved producers (flagged (inputsOf k (drop (i + 1) (boxesOf l used))) (drop (j + 1) ws)))
+        read-here : allResolved producers (flagged (inputsOf k (boxesOf l used)) ws) ≡ (resolvedBy producers (inputOf x (getD ws j 0)) && allResolved producers (flagged (inputsOf k (drop (i + 1) (rowsOf l used))) (drop (j + 1) ws)))
         read-here =
             sym (r .same)
             ∙ ap (λ bs. allResolved producers (flagged bs (drop j ws))) (input-yes l used i h k t)

@@ -2,17 +2,16 @@
 use Prim.Native.Nat.{ℕ, _+_, _≤_, _<_}
 use mathlib.Core.Path.{_≡_, refl, sym, ap, _∙_}
 use mathlib.Core.Bool.{Bool, true, false, not, _&&_, _||_}
-use mathlib.Core.List.{List, [], _∷_, _++_}
-use native.Mathlib.Omega.{arith}
+use mathlib.Core.List.{List, [], _∷_}
 use lib.Dec.{eqb}
-use lib.ListN.{length, drop}
+use lib.ListN.{drop}
 use borrow.Author.Tests.{eqb-true, eq-eqb}
 use Rattle.words.specs.Lists.{pick, flat}
 use Rattle.words.specs.Tables.{drop-of, drop-past}
-use Rattle.boxes.specs.Records.{BoxRec, index, lookup, conflicts}
+use Rattle.boxes.specs.Records.{BoxRec, Pair, index, lookup, conflicts}
 use Rattle.boxes.specs.Among.{among, among-cons}
 use Rattle.boxes.specs.Entering.{overtakenBy}
-use Rattle.boxes.specs.Layout.{boxAt, boxesOf, boxes}
+use Rattle.boxes.specs.Layout.{boxAt, boxesOf, rowsOf, rows, index-rows}
 use Rattle.indexes.specs.Owners.{isEntry, lookup-cons}
 
 -- a live input of one of the boxes: what a newcomer with these inputs and no outputs would overtake
@@ -23,17 +22,37 @@ anySpent ins (r ∷ rs) = overtakenBy ins [] r || anySpent ins rs
 -- ---- record by record
 
 module _ (ins : List ℕ) (l : List ℕ) (n i : ℕ) (h : i < n) where
-  spent-here : anySpent ins (drop i (boxesOf l n)) ≡ (overtakenBy ins [] (boxAt l i) || anySpent ins (drop (i + 1) (boxesOf l n)))
-  spent-here = rw (drop-of boxes l n i h)
+  spent-here : anySpent ins (drop i (rowsOf l n)) ≡ (overtakenBy ins [] (boxAt l i) || anySpent ins (drop (i + 1) (rowsOf l n)))
+  spent-here = rw (drop-of rows l n i h)
 
-  pub spent-hit : overtakenBy ins [] (boxAt l i) ≡ true → anySpent ins (drop i (boxesOf l n)) ≡ true
+  pub spent-hit : overtakenBy ins [] (boxAt l i) ≡ true → anySpent ins (drop i (rowsOf l n)) ≡ true
   spent-hit t = spent-here ∙ rw t
 
-  pub spent-miss : overtakenBy ins [] (boxAt l i) ≡ false → anySpent ins (drop i (boxesOf l n)) ≡ anySpent ins (drop (i + 1) (boxesOf l n))
+  pub spent-miss : overtakenBy ins [] (boxAt l i) ≡ false → anySpent ins (drop i (rowsOf l n)) ≡ anySpent ins (drop (i + 1) (rowsOf l n))
   spent-miss t = spent-here ∙ rw t
 
-pub spent-end : (ins l : List ℕ) (n i : ℕ) → n ≤ i → anySpent ins (drop i (boxesOf l n)) ≡ false
-spent-end ins l n i h = rw (drop-past boxes l n i h)
+pub spent-end : (ins l : List ℕ) (n i : ℕ) → n ≤ i → anySpent ins (drop i (rowsOf l n)) ≡ false
+spent-end ins l n i h = rw (drop-past rows l n i h)
+
+-- ---- it is read from the index of spenders, where those that are gone have no entry
+
+abbrev anyPair : List ℕ → List Pair → Bool
+anyPair ins [] = false
+anyPair ins (p ∷ ps) = among (p .box) ins || anyPair ins ps
+
+by-index : (ins : List ℕ) (rs : List BoxRec) → anySpent ins rs ≡ anyPair ins (index false rs)
+unfolding overtakenBy
+by-index ins [] = refl
+by-index ins (r ∷ rs) = go (r .live) (r .out) (by-index ins rs)
+  where
+    go : (v o : Bool) → anySpent ins rs ≡ anyPair ins (index false rs)
+        → ((v && among (r .box) (pick o [] ins)) || anySpent ins rs) ≡ anyPair ins (pick (v && not o) (record { box = r .box; id = r .owner } ∷ index false rs) (index false rs))
+    go false o h = h
+    go true true h = h
+    go true false h = ap (λ (t : Bool). among (r .box) ins || t) h
+
+pub spent-rows : (ins l : List ℕ) (n : ℕ) → anySpent ins (rowsOf l n) ≡ anySpent ins (boxesOf l n)
+spent-rows ins l n = by-index ins (rowsOf l n) ∙ ap (anyPair ins) (index-rows false l n) ∙ sym (by-index ins (boxesOf l n))
 
 -- ---- no spender, no conflict
 

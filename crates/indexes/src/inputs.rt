@@ -14,7 +14,7 @@ ghost use lib.ListN.{length};
 ghost use Rattle.words.specs.Ids.{idOf};
 ghost use Rattle.boxes.specs.Records.{index, lookup, isInput, inputsOf};
 ghost use Rattle.boxes.specs.Flat.{idsOf};
-ghost use Rattle.boxes.specs.Layout.{BoxesOk, boxAt, boxesOf};
+ghost use Rattle.boxes.specs.Layout.{BoxesOk, boxAt, boxesOf, rowsOf};
 ghost use Rattle.indexes.specs.Owners.{ownerIds};
 ghost use Rattle.indexes.specs.Inputs.{allAmong};
 ghost use Rattle.indexes.specs.Parents.{ofInput, linksOf, lastParent};
@@ -68,7 +68,7 @@ pub fn count_inputs(s: &[u64], used: usize, id: Id) -> usize
     n
 }
 
-// The producer of an input, and the index of the input's record.
+// The producer of an input, and the slot of the input's record.
 pub enum Parent {
     Of(Id, usize),
     NoParent,
@@ -78,7 +78,7 @@ pub enum Parent {
 fn parent_at(s: &[u64], used: usize, id: Id, at: usize) -> Owner
     requires { ⌜ BoxesOk (now s) used ⌝ }
     requires { ⌜ BoxesOk (now s) (at + 1) ⌝ }
-    ensures { λ r. ⌜ ownerIds r ≡ ofInput (lookup (index true (boxesOf (now (s .entry)) used))) (idOf id) (boxAt (now (s .entry)) at) ⌝ }
+    ensures { λ r. ⌜ ownerIds r ≡ ofInput (lookup (index true (rowsOf (now (s .entry)) used))) (idOf id) (boxAt (now (s .entry)) at) ⌝ }
 {
     if is_input(s, at, id) {
         producer(s, used, box_key(s, at))
@@ -93,11 +93,11 @@ fn least(a: usize, b: usize) -> usize
     if a < b { a } else { b }
 }
 
-// The last input of a transaction in the first `n` records that has a producer: who it is, and the index of the input's record. The records
+// The last input of a transaction in the first `n` slots that has a producer: who it is, and the slot of the input's record. The slots
 // are read from the last of these down, so that no more producers are looked up than the answer needs.
 pub fn last_parent(s: &[u64], used: usize, id: Id, n: usize) -> Parent
     requires { ⌜ BoxesOk (now s) used ⌝ }
-    ensures { λ r. ⌜ linksOf r ≡ lastParent (lookup (index true (boxesOf (now (s .entry)) used))) (idOf id) (boxesOf (now (s .entry)) used) n ⌝ }
+    ensures { λ r. ⌜ linksOf r ≡ lastParent (lookup (index true (rowsOf (now (s .entry)) used))) (idOf id) (rowsOf (now (s .entry)) used) n ⌝ }
 {
     let mut at = least(n, used);
     if no_parent(s, used, id, at) {

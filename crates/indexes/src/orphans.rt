@@ -21,7 +21,7 @@ ghost use Rattle.boxes.specs.Among.{among};
 ghost use Rattle.boxes.specs.Records.{index, lookup, inputsOf};
 ghost use Rattle.boxes.specs.Entering.{overtakenBy};
 ghost use Rattle.boxes.specs.Marks.{Marked};
-ghost use Rattle.boxes.specs.Layout.{BoxesOk, boxAt, boxesOf};
+ghost use Rattle.boxes.specs.Layout.{BoxesOk, boxAt, rowsOf};
 ghost use Rattle.indexes.specs.Orphans.{Still};
 
 // Where the records that a transaction owns at the end of the first `n` begin.
@@ -44,7 +44,7 @@ fn block_start(s: &[u64], n: usize, id: Id) -> usize
 fn mark_inputs(s: &[u64], to: usize, id: Id, from: usize, marks: &mut [u8])
     requires { ⌜ BoxesOk (now s) to ⌝ }
     requires { ⌜ 2048 ≤ length (now marks) ⌝ }
-    ensures { λ _. ⌜ Marked (now (marks .exit)) [] (inputsOf (idOf id) (drop from (boxesOf (now (s .entry)) to))) ⌝ }
+    ensures { λ _. ⌜ Marked (now (marks .exit)) [] (inputsOf (idOf id) (drop from (rowsOf (now (s .entry)) to))) ⌝ }
 {
     let mut i = from;
     while i < to {
@@ -60,7 +60,7 @@ fn mark_inputs(s: &[u64], to: usize, id: Id, from: usize, marks: &mut [u8])
 // Whether a box is one of these inputs.
 fn is_listed(s: &[u64], to: usize, id: Id, from: usize, key: Id) -> bool
     requires { ⌜ BoxesOk (now s) to ⌝ }
-    ensures { λ r. ⌜ r ≡ among (idOf key) (inputsOf (idOf id) (drop from (boxesOf (now (s .entry)) to))) ⌝ }
+    ensures { λ r. ⌜ r ≡ among (idOf key) (inputsOf (idOf id) (drop from (rowsOf (now (s .entry)) to))) ⌝ }
 {
     let mut i = from;
     while i < to {
@@ -79,8 +79,8 @@ fn is_listed(s: &[u64], to: usize, id: Id, from: usize, key: Id) -> bool
 // Whether the record at index `at` produces one of these inputs.
 fn makes_one(s: &[u64], to: usize, id: Id, from: usize, marks: &[u8], at: usize) -> bool
     requires { ⌜ (BoxesOk (now s) to) × (BoxesOk (now s) (at + 1)) ⌝ }
-    requires { ⌜ (2048 ≤ length (now marks)) × Marked (now marks) [] (inputsOf (idOf id) (drop from (boxesOf (now s) to))) ⌝ }
-    ensures { λ r. ⌜ r ≡ overtakenBy [] (inputsOf (idOf id) (drop from (boxesOf (now (s .entry)) to))) (boxAt (now (s .entry)) at) ⌝ }
+    requires { ⌜ (2048 ≤ length (now marks)) × Marked (now marks) [] (inputsOf (idOf id) (drop from (rowsOf (now s) to))) ⌝ }
+    ensures { λ r. ⌜ r ≡ overtakenBy [] (inputsOf (idOf id) (drop from (rowsOf (now (s .entry)) to))) (boxAt (now (s .entry)) at) ⌝ }
 {
     if !is_marked(marks, box_key(s, at)) {
         return false;
@@ -98,7 +98,7 @@ fn makes_one(s: &[u64], to: usize, id: Id, from: usize, marks: &[u8], at: usize)
 // Whether the record at index `at` speaks against it: it produces one of these inputs, or is an earlier input.
 fn stirs(s: &[u64], to: usize, id: Id, from: usize, marks: &[u8], at: usize) -> bool
     requires { ⌜ (BoxesOk (now s) to) × (BoxesOk (now s) (at + 1)) ⌝ }
-    requires { ⌜ (2048 ≤ length (now marks)) × Marked (now marks) [] (inputsOf (idOf id) (drop from (boxesOf (now s) to))) ⌝ }
+    requires { ⌜ (2048 ≤ length (now marks)) × Marked (now marks) [] (inputsOf (idOf id) (drop from (rowsOf (now s) to))) ⌝ }
     ensures { λ r. ⌜ (r ≡ false → Still (now (s .entry)) to (idOf id) from at) ⌝ }
 {
     if makes_one(s, to, id, from, marks, at) {
@@ -114,7 +114,7 @@ fn stirs(s: &[u64], to: usize, id: Id, from: usize, marks: &[u8], at: usize) -> 
 // Whether no record does.
 fn all_still(s: &[u64], used: usize, to: usize, id: Id, from: usize, marks: &[u8]) -> bool
     requires { ⌜ (BoxesOk (now s) used) × (BoxesOk (now s) to) ⌝ }
-    requires { ⌜ (2048 ≤ length (now marks)) × Marked (now marks) [] (inputsOf (idOf id) (drop from (boxesOf (now s) to))) ⌝ }
+    requires { ⌜ (2048 ≤ length (now marks)) × Marked (now marks) [] (inputsOf (idOf id) (drop from (rowsOf (now s) to))) ⌝ }
     ensures { λ r. ⌜ (r ≡ true → (j : ℕ) → j < used → Still (now (s .entry)) to (idOf id) from j) ⌝ }
 {
     let mut i = 0;
@@ -132,7 +132,7 @@ fn all_still(s: &[u64], used: usize, to: usize, id: Id, from: usize, marks: &[u8
 pub(crate) fn no_parent(s: &[u64], used: usize, id: Id, n: usize) -> bool
     requires { ⌜ BoxesOk (now s) used ⌝ }
     requires { ⌜ n ≤ used ⌝ }
-    ensures { λ r. ⌜ (r ≡ true → flat (lookup (index true (boxesOf (now (s .entry)) used))) (inputsOf (idOf id) (boxesOf (now (s .entry)) n)) ≡ []) ⌝ }
+    ensures { λ r. ⌜ (r ≡ true → flat (lookup (index true (rowsOf (now (s .entry)) used))) (inputsOf (idOf id) (rowsOf (now (s .entry)) n)) ≡ []) ⌝ }
 {
     let from = block_start(s, n, id);
     if from == n {

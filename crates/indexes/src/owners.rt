@@ -1,10 +1,9 @@
 // Both indexes: the owner of a box's live record of a kind.
-use boxes::rows::box_key;
 use boxes::rows::box_live;
 use boxes::rows::box_out;
 use boxes::rows::box_owner;
+use boxes::rows::is_box;
 use words::ids::Id;
-use words::ids::same_id;
 ghost use mathlib.Core.Path.{_≡_};
 ghost use mathlib.Core.Bool.{true, false};
 ghost use Prim.Native.Nat.{_+_};
@@ -30,7 +29,7 @@ fn is_entry(s: &[u64], at: usize, out: bool, key: Id) -> bool
     requires { ⌜ BoxesOk (now s) (at + 1) ⌝ }
     ensures { λ r. ⌜ r ≡ isEntry out (idOf key) (boxAt (now (s .entry)) at) ⌝ }
 {
-    if same_id(box_key(s, at), key) {
+    if is_box(s, at, key) {
         if box_live(s, at) {
             same_kind(out, box_out(s, at))
         } else {

@@ -172,7 +172,7 @@ module _ (g : MempoolConfig) (bounds : Bounds g) (m : Moment) (l : Ledger) (s : 
   keeps = go (eqb n 0) refl
     where
       go : (t : Bool) → eqb n 0 ≡ t → Keeps g (pick t (judged visitCap st w a ins outs (a .verdict)) (unchanged (refused n 0) w) .world) l (submitted g a ins outs (pick t (judged visitCap st w a ins outs (a .verdict)) (unchanged (refused n 0) w) .outcome) l)
-      go true e = judges (passed 5000 (m .entries) (m .boxes) st room (w .cache) at a ins outs (eqb-true n 0 e)) (a .verdict) refl
+      go true e = judges (passed 5000 (m .entries) (m .boxes) st room (w .cache) at a ins outs (s .fits .ready .tests .pool) (eqb-true n 0 e)) (a .verdict) refl
       go false e = rw (quiet-same g a ins outs n l (refusal-quiet 5000 (entriesRoom (m .entries)) (boxesRoom (m .boxes)) room st (w .tables) (w .cache) at a ins outs)) (record { same = s .world; given = refl })
 
 -- ---- the call

@@ -23,7 +23,7 @@ use Rattle.pool.specs.Pool.{Tables}
 use Rattle.words.specs.Tables.{of-none}
 use Rattle.entries.specs.Layout.{entries}
 use Rattle.entries.specs.Layout.{ok-room as entries-room}
-use Rattle.boxes.specs.Layout.{boxes}
+use Rattle.boxes.specs.Layout.{no-boxes}
 use Rattle.boxes.specs.Layout.{room-ok as boxes-room}
 use Rattle.expiring_cache.specs.Layout.{ok-room as cache-room}
 use Rattle.store.specs.Fits.{goes-on, un-not}
@@ -172,7 +172,7 @@ module _ (m : Moment) (g : MempoolConfig) (e : Ready (m .state) ≡ started (siz
         config = ap (λ (x : Mempool). x .config) (accepted .state);
         world =
             record {
-              book = rw (accepted .state, of-none entries (m .entries), of-none boxes (m .boxes)) book-none;
+              book = rw (accepted .state, of-none entries (m .entries), no-boxes (m .boxes)) book-none;
               charges = rw (accepted .state) charges-none;
               fair = tt;
             };

@@ -17,7 +17,7 @@ use Rattle.pool_types.specs.declared.Counts.{Counts}
 use Rattle.entries.specs.Entries.{Entry, pooled}
 use Rattle.entries.specs.Layout.{entriesOf, entriesRoom, entries}
 use Rattle.entries.specs.Layout.{ok-room as room-entries, room-ok as entries-room}
-use Rattle.boxes.specs.Layout.{boxesOf, boxesRoom, boxes}
+use Rattle.boxes.specs.Layout.{boxesOf, boxesRoom, boxes-few}
 use Rattle.boxes.specs.Layout.{room-ok as room-boxes, ok-room as boxes-room}
 use Rattle.boxes.specs.Flat.{idsTo, ids}
 use Rattle.pool.specs.Pool.{Tables, tablesOf, PoolFits, fitsTest, Room, noRoom, removeTx, removeAll, lowest, dropLow, trim, trimmed, evict, evicted}
@@ -37,32 +37,40 @@ module _ (e b : List ℕ) (c : Counts) where
   fits-holds f = rw (le-leb _ _ (entries-room e (c .pooled) (f .entries))) (le-leb _ _ (boxes-room b (c .records) (f .boxes)))
 
   -- where refusal 27 is not given there is room
-  pub room-left : (needed : ℕ) → noRoom (entriesRoom e) (boxesRoom b) (tablesOf e b c) needed ≡ false → Room e b c needed
-  room-left needed h = go (leb (entriesRoom e) (length (entriesOf e (c .pooled)))) refl h
+  pub room-left : (needed : ℕ) → PoolFits e b c → noRoom (entriesRoom e) (boxesRoom b) (tablesOf e b c) needed ≡ false → Room e b c needed
+  room-left needed f h = go (leb (entriesRoom e) (length (entriesOf e (c .pooled)))) refl h
     where
       go : (t : Bool) → leb (entriesRoom e) (length (entriesOf e (c .pooled))) ≡ t → (t || ltb (boxesRoom b) (length (boxesOf b (c .records)) + needed)) ≡ false → Room e b c needed
       go true p q = let z : _≡_ {A = ℕ} 0 1 = cc in absurd (omega arith)
       go false p q =
           let a = leb-false (entriesRoom e) (length (entriesOf e (c .pooled))) p in
-          let d = ltb-false (boxesRoom b) (length (boxesOf b (c .records)) + needed) q in
           record {
             entries = room-entries e (c .pooled + 1) (omega (arith, entries .len e (c .pooled)));
-            boxes = room-boxes b (c .records + needed) (omega (arith, boxes .len b (c .records)));
+            boxes = f .boxes;
+            free = ltb-false (boxesRoom b) (length (boxesOf b (c .records)) + needed) q;
           }
 
-  -- the code's two tests are those of 27
+  -- the code's tests are those of 27
   module _ (needed : ℕ) where
     pub room-none : {m : ℕ} → m ≡ entriesRoom e → m ≤ c .pooled → false ≡ not (noRoom (entriesRoom e) (boxesRoom b) (tablesOf e b c) needed)
     room-none {m} p h = let h' : entriesRoom e ≤ length (entriesOf e (c .pooled)) = omega (arith, entries .len e (c .pooled)) in rw (le-leb _ _ h')
 
-    pub room-some : {m r : ℕ} → m ≡ entriesRoom e → r ≡ boxesRoom b → c .pooled < m → PoolFits e b c → leb needed (r - c .records) ≡ not (noRoom (entriesRoom e) (boxesRoom b) (tablesOf e b c) needed)
-    room-some {m} {r} p q h f =
+    -- n records are there, in at most as many slots
+    pub room-some : {m r : ℕ} (n : ℕ) → m ≡ entriesRoom e → r ≡ boxesRoom b → c .pooled < m → n ≡ length (boxesOf b (c .records)) → n ≤ r → leb needed (r - n) ≡ not (noRoom (entriesRoom e) (boxesRoom b) (tablesOf e b c) needed)
+    room-some {m} {r} n p q h e' l =
         let h' : length (entriesOf e (c .pooled)) < entriesRoom e = omega (arith, entries .len e (c .pooled)) in
-        rw (lt-leb _ _ h', boxes .len b (c .records), q) (same (boxes-room b (c .records) (f .boxes)) (decLe needed (boxesRoom b - c .records)))
+        rw (lt-leb _ _ h', ← e', ← q) (same (decLe needed (r - n)))
       where
-        same : c .records ≤ boxesRoom b → Dec (needed ≤ boxesRoom b - c .records) → leb needed (boxesRoom b - c .records) ≡ not (ltb (boxesRoom b) (c .records + needed))
-        same ok (yes l) = rw (le-leb _ _ l, le-ltb (boxesRoom b) (c .records + needed) (omega arith))
-        same ok (no l) = rw (lt-leb needed (boxesRoom b - c .records) (omega (arith, l)), lt-ltb (boxesRoom b) (c .records + needed) (omega (arith, l)))
+        same : Dec (needed ≤ r - n) → leb needed (r - n) ≡ not (ltb r (n + needed))
+        same (yes k) = rw (le-leb _ _ k, le-ltb r (n + needed) (omega arith))
+        same (no k) = rw (lt-leb needed (r - n) (omega (arith, k)), lt-ltb r (n + needed) (omega (arith, k)))
+
+    -- .. and need not be counted where the slots leave room
+    pub room-plenty : {m r : ℕ} → m ≡ entriesRoom e → r ≡ boxesRoom b → c .pooled < m → c .records ≤ r → needed ≤ r - c .records → true ≡ not (noRoom (entriesRoom e) (boxesRoom b) (tablesOf e b c) needed)
+    room-plenty {m} {r} p q h l k =
+        let h' : length (entriesOf e (c .pooled)) < entriesRoom e = omega (arith, entries .len e (c .pooled)) in
+        let k' : length (boxesOf b (c .records)) + needed ≤ boxesRoom b = omega (arith, boxes-few b (c .records)) in
+        rw (lt-leb _ _ h', le-ltb _ _ k')
 
 -- ---- a removal: whether one was there shows in how many are left
 

@@ -1,5 +1,5 @@
 -- The ordered pool: the entries and the box records together (document 01, "The ordered pool").
-use Prim.Native.Nat.{ℕ, zero, suc, _+_}
+use Prim.Native.Nat.{ℕ, zero, suc, _+_, _≤_}
 use mathlib.Core.Path.{_≡_, refl}
 use mathlib.Core.Bool.{Bool, true, false, _&&_, _||_}
 use mathlib.Core.List.{List, [], _∷_}
@@ -35,7 +35,15 @@ fitsTest e b c = leb (c .pooled) (entriesRoom e) && leb (c .records) (boxesRoom 
 -- the words have room for one more entry and so many more records
 pub record Room (e b : List ℕ) (c : Counts) (needed : ℕ) : Type 0 where
   pub entries : EntriesOk e (c .pooled + 1)
-  pub boxes : BoxesOk b (c .records + needed)
+  pub boxes : BoxesOk b (c .records)
+  pub free : length (boxesOf b (c .records)) + needed ≤ boxesRoom b
+
+-- .. which stand free behind the used slots: the records are what they were
+pub record Made (b m : List ℕ) (c d : Counts) (needed : ℕ) : Type 0 where
+  pub kept : length m ≡ length b
+  pub pooled : d .pooled ≡ c .pooled
+  pub room : BoxesOk m (d .records + needed)
+  pub rows : boxesOf m (d .records) ≡ boxesOf b (c .records)
 
 -- what a call leaves: words and counts that fit, and these tables in them
 pub record Left (e b : List ℕ) (c : Counts) (t : Tables) : Type 0 where

@@ -11,10 +11,10 @@ use Rattle.entries.specs.Entries.{Entry, insertBy, pooled}
 use Rattle.entries.specs.Layout.{entriesOf, ok-fewer}
 use Rattle.entries.specs.Layout.{Left as Rows}
 use Rattle.entries.specs.Laws.{but-lowest, removed-count}
-use Rattle.boxes.specs.Records.{BoxRec, dropOwner}
-use Rattle.boxes.specs.Layout.{boxesOf, ok-still}
-use Rattle.boxes.specs.Posts.{Entered, Dropped}
-use Rattle.pool.specs.Pool.{Tables, tablesOf, PoolFits, Room, Left, insertTx, removeTx, lowest, dropLow}
+use Rattle.boxes.specs.Records.{BoxRec, enterTx, dropOwner}
+use Rattle.boxes.specs.Layout.{boxesOf, ok-still, ok-moved}
+use Rattle.boxes.specs.Posts.{Entered, Dropped, Roomy}
+use Rattle.pool.specs.Pool.{Tables, tablesOf, PoolFits, Left, insertTx, removeTx, lowest, dropLow}
 use Rattle.pool.specs.Laws.{away-none, as-many, fewer}
 
 abbrev counts : ℕ → ℕ → Counts
@@ -26,21 +26,22 @@ both p q = λ i. record { entries = p i; boxes = q i }
 
 module _ (e b : List ℕ) (c : Counts) where
   module _ (n : List ℕ) (r : ℕ) where
-    -- one came in
-    pub inserted : (m : List ℕ) (x : Entry) (ins outs : List ℕ) (needed : ℕ) → Room e b c needed → Rows e m (c .pooled + 1) (insertBy x (entriesOf e (c .pooled)))
-        → Entered b n (c .records) needed r (x .id) ins outs → Left m n (counts (c .pooled + 1) r) (insertTx x ins outs (tablesOf e b c))
-    inserted m x ins outs needed f p q =
+    -- one came in, after room was made for its records
+    pub inserted : (b' m : List ℕ) (used : ℕ) (x : Entry) (ins outs : List ℕ) (needed : ℕ) → Roomy b b' (c .records) used needed → Rows e m (c .pooled + 1) (insertBy x (entriesOf e (c .pooled)))
+        → Entered b' n used needed r (x .id) ins outs → Left m n (counts (c .pooled + 1) r) (insertTx x ins outs (tablesOf e b c))
+    inserted b' m used x ins outs needed f p q =
         record {
-          fits = record { entries = p .ok; boxes = ok-still b n r (c .records + needed) (f .boxes) (q .kept) (omega (arith, q .count)) };
-          tables = both (p .rows) (q .rows);
+          fits = record { entries = p .ok; boxes = ok-still b' n r (used + needed) (f .room) (q .kept) (omega (arith, q .count)) };
+          tables = both (p .rows) (q .rows ∙ ap (enterTx (x .id) ins outs) (f .rows));
         }
 
+  module _ (n : List ℕ) where
     -- the lowest went
-    pub lowered : (k : ℕ) → PoolFits e b c → 0 < c .pooled → k ≡ lowest (tablesOf e b c) .id → Dropped b n (c .records) r k
-        → Left e n (counts (c .pooled - 1) r) (dropLow (tablesOf e b c))
+    pub lowered : (k : ℕ) → PoolFits e b c → 0 < c .pooled → k ≡ lowest (tablesOf e b c) .id → Dropped b n (c .records) k
+        → Left e n (counts (c .pooled - 1) (c .records)) (dropLow (tablesOf e b c))
     lowered k f h p q =
         record {
-          fits = record { entries = ok-fewer e (c .pooled - 1) (c .pooled) (f .entries) (omega arith); boxes = ok-still b n r (c .records) (f .boxes) (q .kept) (q .fewer) };
+          fits = record { entries = ok-fewer e (c .pooled - 1) (c .pooled) (f .entries) (omega arith); boxes = ok-moved b n (c .records) (f .boxes) (q .kept) };
           tables = both (but-lowest e (c .pooled) h) (q .rows ∙ ap (λ (j : ℕ). dropOwner j (boxesOf b (c .records))) p);
         }
 
@@ -59,9 +60,9 @@ module _ (e b : List ℕ) (c : Counts) where
         none : pooled k (entriesOf e (c .pooled)) ≡ false
         none = as-many _ s (c .pooled) said h
 
-    pub removed-both : (n : List ℕ) (r : ℕ) → (s ≡ c .pooled → ⊥) → Dropped b n (c .records) r k → Left m n (counts s r) (removeTx k (tablesOf e b c))
-    removed-both n r h q =
+    pub removed-both : (n : List ℕ) → (s ≡ c .pooled → ⊥) → Dropped b n (c .records) k → Left m n (counts s (c .records)) (removeTx k (tablesOf e b c))
+    removed-both n h q =
         record {
-          fits = record { entries = p .ok; boxes = ok-still b n r (c .records) (f .boxes) (q .kept) (q .fewer) };
+          fits = record { entries = p .ok; boxes = ok-moved b n (c .records) (f .boxes) (q .kept) };
           tables = rw (fewer (pooled k (entriesOf e (c .pooled))) s (c .pooled) said h) (both (p .rows) (q .rows));
         }

@@ -1,7 +1,9 @@
 // The ordered pool: the entries in priority order and the box records, both in words that the caller lends. `Counts` says how much of
 // them is in use; it goes through every call.
 use boxes::lists;
-use boxes::records::drop_from;
+use boxes::records;
+use boxes::records::count_boxes;
+use boxes::records::drop_between;
 use boxes::records::drop_owner;
 use boxes::records::enter_tx;
 use boxes::records::write_behind;
@@ -19,14 +21,15 @@ ghost use mathlib.Core.Path.{_≡_};
 ghost use mathlib.Core.Bool.{not};
 ghost use mathlib.Core.List.{map};
 ghost use Prim.Native.Nat.{_+_, _≤_, _<_};
+ghost use lib.ListN.{length};
 ghost use Rattle.words.specs.Ids.{idOf};
 ghost use Rattle.words.specs.Find.{last};
 ghost use Rattle.entries.specs.Layout.{EntriesOk, entryOf, entriesOf, entriesRoom};
 ghost use Rattle.boxes.specs.Entering.{hideTx};
-ghost use Rattle.boxes.specs.Layout.{boxesRoom, boxesOf};
-ghost use Rattle.boxes.specs.Clear.{Clear};
+ghost use Rattle.boxes.specs.Layout.{boxesRoom, BoxesOk, boxesOf};
+ghost use Rattle.boxes.specs.Clear.{Between, Still};
 ghost use Rattle.boxes.specs.Flat.{countOf, idsOf, idsTo};
-ghost use Rattle.pool.specs.Pool.{PoolFits, fitsTest, Room, noRoom, Left, tablesOf, insertTx, removeTx, removeAll, nobody, dropLow};
+ghost use Rattle.pool.specs.Pool.{PoolFits, fitsTest, Room, Made, noRoom, Left, tablesOf, insertTx, removeTx, removeAll, nobody, dropLow};
 
 // ---- what is tested
 
@@ -40,7 +43,8 @@ pub fn fits(entries: &[u64], boxes: &[u64], counts: Counts) -> bool
     counts.records <= boxes_room(boxes)
 }
 
-// Refusal 27, turned round: whether one more entry and so many more box records have room.
+// Refusal 27, turned round: whether one more entry and so many more box records have room. The records are counted only where the slots leave
+// too little.
 pub fn room_for(entries: &[u64], boxes: &[u64], counts: Counts, needed: usize) -> bool
     requires { ⌜ PoolFits (now entries) (now boxes) counts ⌝ }
     ensures { λ r. ⌜ r ≡ not (noRoom (entriesRoom (now (entries .entry))) (boxesRoom (now (boxes .entry))) (tablesOf (now (entries .entry)) (now (boxes .entry)) counts) needed) ⌝ }
@@ -48,10 +52,27 @@ pub fn room_for(entries: &[u64], boxes: &[u64], counts: Counts, needed: usize) -
     if entries_room(entries) <= counts.pooled {
         return false;
     }
-    needed <= boxes_room(boxes) - counts.records
+    let room = boxes_room(boxes);
+    if needed <= room - counts.records {
+        return true;
+    }
+    needed <= room - count_boxes(boxes, counts.records)
 }
 
 // ---- a transaction enters and leaves
+
+// Sees to it that so many more records have room behind the used slots.
+pub fn make_room(boxes: &mut [u64], counts: Counts, needed: usize) -> Counts
+    requires { ⌜ BoxesOk (now boxes) (counts .records) ⌝ }
+    requires { ⌜ length (boxesOf (now boxes) (counts .records)) + needed ≤ boxesRoom (now boxes) ⌝ }
+    ensures { λ r. ⌜ Made (now (boxes .entry)) (now (boxes .exit)) counts r needed ⌝ }
+{
+    let records = records::make_room(boxes, counts.records, needed);
+    Counts {
+        pooled: counts.pooled,
+        records,
+    }
+}
 
 // Puts an entry where the order has it, and enters the records of its inputs and outputs: lists of records that begin with an id.
 pub fn insert(
@@ -69,15 +90,9 @@ pub fn insert(
     ensures { λ r. ⌜ Left (now (entries .exit)) (now (boxes .exit)) r (insertTx (entryOf e) (idsOf «in_width» (now (inputs .entry))) (idsOf «out_width» (now (outputs .entry))) (tablesOf (now (entries .entry)) (now (boxes .entry)) counts)) ⌝ }
 {
     let id = e.id;
-    let records = enter_tx(
-        boxes,
-        counts.records,
-        id,
-        inputs,
-        in_width,
-        outputs,
-        out_width,
-    );
+    let needed = lists::count_of(inputs, in_width) + lists::count_of(outputs, out_width);
+    let used = records::make_room(boxes, counts.records, needed);
+    let records = enter_tx(boxes, used, id, inputs, in_width, outputs, out_width);
     insert_entry(entries, counts.pooled, e);
     Counts {
         pooled: counts.pooled + 1,
@@ -85,7 +100,7 @@ pub fn insert(
     }
 }
 
-// The same where no older record is hidden: the records stay as they are, and the new ones stand behind them.
+// The same where room was made and no older record is hidden: the records stay as they are, and the new ones stand behind them.
 pub fn insert_alone(
     entries: &mut [u64],
     boxes: &mut [u64],
@@ -96,10 +111,10 @@ pub fn insert_alone(
     outputs: &[u64],
     out_width: usize,
 ) -> Counts
-    requires { ⌜ Room (now entries) (now boxes) counts (countOf «in_width» (now inputs) + countOf «out_width» (now outputs)) ⌝ }
+    requires { ⌜ EntriesOk (now entries) (counts .pooled + 1) × BoxesOk (now boxes) (counts .records + (countOf «in_width» (now inputs) + countOf «out_width» (now outputs))) ⌝ }
     requires { ⌜ (4 ≤ «in_width») × (4 ≤ «out_width») ⌝ }
     requires { ⌜ map (hideTx (idsOf «in_width» (now inputs)) (idsOf «out_width» (now outputs))) (boxesOf (now boxes) (counts .records)) ≡ boxesOf (now boxes) (counts .records) ⌝ }
-    ensures { λ r. ⌜ Left (now (entries .exit)) (now (boxes .exit)) r (insertTx (entryOf e) (idsOf «in_width» (now (inputs .entry))) (idsOf «out_width» (now (outputs .entry))) (tablesOf (now (entries .entry)) (now (boxes .entry)) counts)) ⌝ }
+    ensures { λ r. ⌜ (Left (now (entries .exit)) (now (boxes .exit)) r (insertTx (entryOf e) (idsOf «in_width» (now (inputs .entry))) (idsOf «out_width» (now (outputs .entry))) (tablesOf (now (entries .entry)) (now (boxes .entry)) counts))) × Still (now (boxes .entry)) (now (boxes .exit)) (counts .records) × (counts .records ≤ r .records) ⌝ }
 {
     let id = e.id;
     let records = write_behind(
@@ -127,8 +142,11 @@ pub fn remove(entries: &mut [u64], boxes: &mut [u64], counts: Counts, id: Id) ->
     if pooled == counts.pooled {
         return counts;
     }
-    let records = drop_owner(boxes, counts.records, id);
-    Counts { pooled, records }
+    drop_owner(boxes, counts.records, id);
+    Counts {
+        pooled,
+        records: counts.records,
+    }
 }
 
 // Removes the first `k` ids of a list, one after the other.
@@ -176,33 +194,36 @@ pub fn evict_lowest(entries: &mut [u64], boxes: &mut [u64], counts: Counts) -> C
     requires { ⌜ 0 < counts .pooled ⌝ }
     ensures { λ r. ⌜ Left (now (entries .exit)) (now (boxes .exit)) r (dropLow (tablesOf (now (entries .entry)) (now (boxes .entry)) counts)) ⌝ }
 {
-    let id = lowest_id(entries, counts);
-    let records = drop_owner(boxes, counts.records, id);
+    let low = lowest_id(entries, counts);
+    drop_owner(boxes, counts.records, low);
     Counts {
         pooled: counts.pooled - 1,
-        records,
+        records: counts.records,
     }
 }
 
-// The same where it is known that `low` owns none of the first `from` records: if that one is the lowest they are not read.
+// The same where it is known that `low` owns none of the slots before `first`, and none from `last` on and before `rest`: if that one is the
+// lowest they are not read.
 pub fn evict_low(
     entries: &mut [u64],
     boxes: &mut [u64],
     counts: Counts,
     low: Id,
-    from: usize,
+    first: usize,
+    last: usize,
+    rest: usize,
 ) -> Counts
     requires { ⌜ PoolFits (now entries) (now boxes) counts ⌝ }
     requires { ⌜ 0 < counts .pooled ⌝ }
-    requires { ⌜ (from ≤ counts .records) × Clear (now boxes) (idOf low) from ⌝ }
+    requires { ⌜ Between (now boxes) (counts .records) (idOf low) first last rest ⌝ }
     ensures { λ r. ⌜ Left (now (entries .exit)) (now (boxes .exit)) r (dropLow (tablesOf (now (entries .entry)) (now (boxes .entry)) counts)) ⌝ }
 {
     if !same_id(lowest_id(entries, counts), low) {
         return evict_lowest(entries, boxes, counts);
     }
-    let records = drop_from(boxes, counts.records, low, from);
+    drop_between(boxes, counts.records, low, first, last, rest);
     Counts {
         pooled: counts.pooled - 1,
-        records,
+        records: counts.records,
     }
 }

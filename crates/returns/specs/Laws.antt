@@ -19,7 +19,7 @@ use Rattle.entries.specs.Entries.{Entry, pooled}
 use Rattle.entries.specs.Layout.{entriesRoom}
 use Rattle.boxes.specs.Layout.{boxesRoom}
 use Rattle.boxes.specs.Flat.{idsOf}
-use Rattle.pool.specs.Pool.{tablesOf, Room, noRoom, insertTx, removeTx}
+use Rattle.pool.specs.Pool.{tablesOf, PoolFits, Room, noRoom, insertTx, removeTx}
 use Rattle.pool.specs.Laws.{fits-true, fits-holds, room-left}
 use Rattle.store.specs.World.{worldOf, Result, unchanged}
 use Rattle.store.specs.Fits.{Testable, Fits}
@@ -117,16 +117,16 @@ module _ (e b : List ℕ) (st : Mempool) (u : UnconfirmedTx) (ins outs : List �
   return-stopped h k p f = rw (← q) (meets-as (no _ _ _ (ne-eqb n 0 h)) (meets-unchanged e b k p st _ _ f refl))
 
   -- with none it has room ..
-  pub return-room : n ≡ 0 → Room e b (st .counts) (records 4 ins + records 5 outs)
+  pub return-room : PoolFits e b (st .counts) → n ≡ 0 → Room e b (st .counts) (records 4 ins + records 5 outs)
   unfolding returnRefusal
-  return-room h =
+  return-room f h =
       let g : returnRefusal (entriesRoom e) (boxesRoom b) st (tablesOf e b (st .counts)) u ins outs ≡ 0 = sym q ∙ h in
       let p = goes-on (st .pass .open) 20 _ tt g in
       let r = goes-on (not (whole 4 ins && whole 5 outs)) 1 _ tt (p .1) in
       let s = goes-on (ltb 98304 (u .size)) 3 _ tt (r .1) in
       let t = goes-on (pooled (idOf (u .id)) (tablesOf e b (st .counts) .entries)) 23 _ tt (s .1) in
       let v = goes-on (noRoom (entriesRoom e) (boxesRoom b) (tablesOf e b (st .counts)) (records 4 ins + records 5 outs)) 27 0 tt (t .1) in
-      room-left e b (st .counts) _ (v .0)
+      room-left e b (st .counts) _ f (v .0)
 
   -- .. and enters, and nothing else changes
   pub return-entered : n ≡ 0 → (e' b' : List ℕ) (r : Mempool) (x : Entry) → x ≡ returnedEntry (st .config) u ins outs

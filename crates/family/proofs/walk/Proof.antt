@@ -1,11 +1,10 @@
 -- `family::walk` meets its contract. The loop's invariant, `Walking`: what is left of the walk, over where it is, gives what the whole walk gives.
 -- The measure is two for each visit left and one for each open frame. Assumes nothing.
-use borrow.Author.Needs.{needs}
 use native.Mathlib.Omega.{arith}
 use Prim.Native.Nat.{_+_}
 use mathlib.Core.Path.{_≡_, refl}
 use lib.ListN.{length}
-use Rattle.boxes.specs.Layout.{boxesOf}
+use Rattle.boxes.specs.Layout.{rowsOf}
 use Rattle.family.specs.Frames.{ok-fewer, ok-still}
 use Rattle.family.specs.Steps.{Walking, walk-on, walked-whole}
 use Rattle.family.proofs.walk.Statement.{statement}
@@ -13,7 +12,7 @@ use Rattle.family.proofs.walk.Tie as tie
 
 abbrev Inv-loop : tie.InvT-loop
 Inv-loop entries₀ boxes counts frames₀ amount cap bound w₀ entries frames w =
-    (length entries ≡ length entries₀) × (length frames ≡ length frames₀) × Walking entries₀ entries frames₀ frames (boxesOf boxes (counts .records)) (counts .pooled) amount w₀ w
+    (length entries ≡ length entries₀) × (length frames ≡ length frames₀) × Walking entries₀ entries frames₀ frames (rowsOf boxes (counts .records)) (counts .pooled) amount w₀ w
 
 abbrev μ-loop : tie.MeasureT-loop
 μ-loop entries₀ boxes counts frames₀ amount cap bound w₀ entries frames w = w .budget + w .budget + w .depth

@@ -44,7 +44,8 @@ entry-of-requires c κs = search needs
 
 insert-requires : tie.Need-insert-requires
 insert-requires c κs =
-    let r = room-left _ _ _ _ (not-true _ (sym (c .before .before .before .before .room-for .ensures) ∙ not-false _ (c .before .before .before .if2 .left))) in
+    let f = fits-true _ _ _ (sym (c .before .before .before .before .before .before .before .before .before .before .fits2 .ensures) ∙ not-false _ (c .before .before .before .before .before .before .before .before .before .if1 .left)) in
+    let r = room-left _ _ _ _ f (not-true _ (sym (c .before .before .before .before .room-for .ensures) ∙ not-false _ (c .before .before .before .if2 .left))) in
     (rw (c .before .before .before .before .before .before .before .before .count-of .ensures, c .before .before .before .before .before .before .before .count-of2 .ensures) at r, search needs)
 
 same-length-5 : tie.Need-same-length-5

@@ -1,6 +1,6 @@
 -- `pool::evict_lowest` meets its contract, from what its calls leave (`lowered`). Assumes nothing.
-use borrow.Author.Needs.{needs}
 use Rattle.pool.specs.Steps.{lowered}
+use borrow.Author.Needs.{needs}
 use Rattle.pool.proofs.evict_lowest.Statement.{statement}
 use Rattle.pool.proofs.evict_lowest.Tie as tie
 
@@ -20,7 +20,7 @@ same-length-2 : tie.Need-same-length-2
 same-length-2 c = search needs
 
 returns : tie.Need-returns
-returns c = lowered _ _ _ _ _ _ (c .before .before .before .before .before .before .before .before .before .pre .0) (c .before .before .before .before .before .before .before .before .before .pre .1) (c .before .before .before .before .before .lowest-id .ensures) (c .before .before .before .drop-owner .ensures)
+returns c = lowered _ _ _ _ _ (c .before .before .before .before .before .before .before .before .before .pre .0) (c .before .before .before .before .before .before .before .before .before .pre .1) (c .before .before .before .before .before .lowest-id .ensures) (c .before .before .before .drop-owner .ensures)
 
 pub evict-lowest-spec : {M : Type 1} → statement M
 evict-lowest-spec =

@@ -1,6 +1,6 @@
 -- `pool::remove` meets its contract: whether the id was pooled shows in the count of entries (`removed-nothing`, `removed-both`). Assumes nothing.
-use borrow.Author.Needs.{needs}
 use Rattle.pool.specs.Steps.{removed-nothing, removed-both}
+use borrow.Author.Needs.{needs}
 use Rattle.pool.proofs.remove.Statement.{statement}
 use Rattle.pool.proofs.remove.Tie as tie
 
@@ -23,7 +23,7 @@ same-length-3 : tie.Need-same-length-3
 same-length-3 c = search needs
 
 returns-2 : tie.Need-returns-2
-returns-2 c = removed-both _ _ _ _ _ _ (c .before .before .before .before .before .before .before .before .before .before .before .before .pre) (c .before .before .before .before .before .before .before .before .remove-entry .ensures) _ _ (c .before .before .before .before .if1 .left) (c .before .before .drop-owner .ensures)
+returns-2 c = removed-both _ _ _ _ _ _ (c .before .before .before .before .before .before .before .before .before .before .before .before .pre) (c .before .before .before .before .before .before .before .before .remove-entry .ensures) _ (c .before .before .before .before .if1 .left) (c .before .before .drop-owner .ensures)
 
 pub remove-spec : {M : Type 1} → statement M
 remove-spec =

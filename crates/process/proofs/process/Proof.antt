@@ -54,7 +54,9 @@ returns-2 c =
     (post-refused _ _ _ _ _ _ (fitted _ _ _ _ _ (c .before .before .before .before .before .before .before .before .fits-all .ensures) (c .before .before .before .before .before .before .before .if1 .left)) _))
 
 judge-requires : tie.Need-judge-requires
-judge-requires c κs = (fitted _ _ _ _ _ (c .before .before .before .before .before .before .before .before .before .before .before .before .before .fits-all .ensures) (c .before .before .before .before .before .before .before .before .before .before .before .before .if1 .left), (c .before .before .before .before .before .before .before .before .before .before .standing-of .ensures, passed _ _ _ _ _ _ _ _ _ _ (sym (c .before .before .before .before .before .before .check .ensures) ∙ c .before .before .before .before .before .if2 .left)))
+judge-requires c κs =
+    let f = fitted _ _ _ _ _ (c .before .before .before .before .before .before .before .before .before .before .before .before .before .fits-all .ensures) (c .before .before .before .before .before .before .before .before .before .before .before .before .if1 .left) in
+    (f, (c .before .before .before .before .before .before .before .before .before .before .standing-of .ensures, passed _ _ _ _ _ _ _ _ _ _ (f .tests .pool) (sym (c .before .before .before .before .before .before .check .ensures) ∙ c .before .before .before .before .before .if2 .left)))
 
 same-length-9 : tie.Need-same-length-9
 same-length-9 c = c .before .before .before .before .before .before .before .before .before .before .judge .kept .0

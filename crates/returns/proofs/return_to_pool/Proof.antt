@@ -53,7 +53,7 @@ returned-entry-requires : tie.Need-returned-entry-requires
 returned-entry-requires c κs = search needs
 
 enter-requires : tie.Need-enter-requires
-enter-requires c κs = return-room _ _ _ _ _ _ (c .before .before .before .before .before .check-return .ensures) (c .before .before .before .before .if2 .left)
+enter-requires c κs = return-room _ _ _ _ _ _ (c .before .before .before .before .before .check-return .ensures) (fits-true _ _ _ (met (c .before .before .before .before .before .before .before .before .before .fits2 .ensures) (c .before .before .before .before .before .before .before .before .if1 .left))) (c .before .before .before .before .if2 .left)
 
 same-length-5 : tie.Need-same-length-5
 same-length-5 c = c .before .before .before .before .enter .kept .0

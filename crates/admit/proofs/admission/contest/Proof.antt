@@ -53,7 +53,7 @@ slice-aggregate-seat : tie.Need-slice-aggregate-seat
 slice-aggregate-seat c = search needs
 
 seat-requires : tie.Need-seat-requires
-seat-requires c κs = (room-after _ _ _ _ _ _ _ (idsTo 4 _ _) (c .before .before .before .before .before .before .before .before .before .before .before .before .before .before .before .before .before .before .before .before .before .before .before .before .before .pre .0) (omega arith) (omega arith) (c .before .before .before .before .before .before .before .before .remove-all .ensures .tables), (omega arith, omega arith))
+seat-requires c κs = (room-after _ _ _ _ _ _ _ (idsTo 4 _ _) (c .before .before .before .before .before .before .before .before .before .before .before .before .before .before .before .before .before .before .before .before .before .before .before .before .before .pre .0) (omega arith) (omega arith) (c .before .before .before .before .before .before .before .before .remove-all .ensures), (omega arith, omega arith))
 
 same-length-4 : tie.Need-same-length-4
 same-length-4 c = search needs

@@ -2,7 +2,7 @@
 use borrow.Author.Needs.{needs}
 use native.Mathlib.Omega.{arith}
 use Rattle.entries.specs.Layout.{entryOf}
-use Rattle.boxes.specs.Clear.{clear-none}
+use Rattle.boxes.specs.Clear.{anywhere}
 use Rattle.admit.specs.Admission.{enters}
 use Rattle.admit.proofs.admission.enter.Statement.{statement}
 use Rattle.admit.proofs.admission.enter.Tie as tie
@@ -14,7 +14,7 @@ propagate-family-weight-requires : tie.Need-propagate-family-weight-requires
 propagate-family-weight-requires c κs = c .before .before .before .before .before .before .insert .ensures .fits
 
 evict-to-requires : tie.Need-evict-to-requires
-evict-to-requires c κs = (c .before .before .before .before .before .propagate-family-weight .ensures .fits, (c .before .before .before .before .before .before .before .before .before .before .before .before .before .before .before .before .before .before .before .before .before .pre .1, (omega arith, clear-none _ _)))
+evict-to-requires c κs = (c .before .before .before .before .before .propagate-family-weight .ensures .fits, (c .before .before .before .before .before .before .before .before .before .before .before .before .before .before .before .before .before .before .before .before .before .pre .1, anywhere _ _ _))
 
 same-length : tie.Need-same-length
 same-length c = search needs

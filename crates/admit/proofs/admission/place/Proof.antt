@@ -1,96 +1,49 @@
--- `admission::place` meets its contract: the newcomer stands alone, contests its boxes, or has nobody to contest with (`contest-free`).
--- Assumes nothing.
-use borrow.Author.Needs.{needs}
+-- `admission::place` meets its contract: where room was made the tables are the same (`made-leaves`). Assumes nothing.
+use Rattle.admit.specs.Admission.{made-room, made-leaves}
+use Rattle.boxes.specs.Layout.{boxesRoom, room-ok, ok-bound}
 use native.Mathlib.Omega.{arith}
-use mathlib.Core.Path.{refl, sym, _∙_}
-use Rattle.words.specs.Tables.{of-none}
-use Rattle.boxes.specs.Flat.{idsOf, ids}
-use Rattle.boxes.specs.Layout.{boxesOf}
-use Rattle.indexes.specs.Spent.{no-conflict}
-use Rattle.admit.specs.Admission.{room-fits, contest-free}
-use Rattle.admit.specs.Alone.{quiet-conflicts}
 use Rattle.admit.proofs.admission.place.Statement.{statement}
 use Rattle.admit.proofs.admission.place.Tie as tie
 
-lowest-or-requires : tie.Need-lowest-or-requires
-lowest-or-requires c κs = room-fits _ _ _ _ (c .before .before .before .before .before .before .before .pre .0) .entries
+count-records-requires : tie.Need-count-records-requires
+count-records-requires c κs = omega arith
 
-scan-requires : tie.Need-scan-requires
-scan-requires c κs = (room-fits _ _ _ _ (c .before .before .before .before .before .before .before .before .before .pre .0) .boxes, (omega arith, omega arith))
+count-records-requires-2 : tie.Need-count-records-requires-2
+count-records-requires-2 c κs = omega arith
 
-seat-alone-requires : tie.Need-seat-alone-requires
-seat-alone-requires c κs = (c .before .before .before .before .before .before .before .before .before .before .before .before .before .before .pre .0, c .before .before .before .before .scan .ensures (c .before .before .before .if1 .taken))
+add-needed : tie.Need-add-needed
+add-needed c = omega (arith, c .before .before .before .before .before .before .before .pre .0 .free, ok-bound _ _ (room-ok (c .before .before .before .before .before .before .before .args .boxes .now) (boxesRoom (c .before .before .before .before .before .before .before .args .boxes .now)) (omega arith)), c .before .count-records .ensures, c .count-records2 .ensures)
+
+make-room-requires : tie.Need-make-room-requires
+make-room-requires c κs = (c .before .before .before .before .before .before .before .before .pre .0 .boxes, omega (arith, c .before .before .before .before .before .before .before .before .pre .0 .free, c .before .before .count-records .ensures, c .before .count-records2 .ensures))
+
+find-place-requires : tie.Need-find-place-requires
+find-place-requires c κs =
+    let k = rw (c .before .before .before .before .before .before .before .before .count-records .ensures, c .before .before .before .before .before .before .before .count-records2 .ensures) at (c .before .before .before .before .before .make-room .ensures) in
+    (made-room _ _ _ _ _ _ k (c .before .before .before .before .before .before .before .before .before .before .before .before .before .before .pre .0), (c .before .before .before .before .before .before .before .before .before .before .before .before .before .before .pre .1, k .room))
 
 same-length : tie.Need-same-length
-same-length c = search needs
+same-length c = omega arith
 
 same-length-2 : tie.Need-same-length-2
-same-length-2 c = search needs
+same-length-2 c = omega arith
 
 same-length-3 : tie.Need-same-length-3
-same-length-3 c = search needs
+same-length-3 c = omega arith
 
 returns : tie.Need-returns
-returns c = contest-free _ _ _ _ _ _ _ _ _ _ _ _ _ (quiet-conflicts _ _ _ _ _ _ _ (c .before .before .before .before .before .before .before .before .before .before .before .scan .ensures (c .before .before .before .before .before .before .before .before .before .before .if1 .taken))) refl (c .before .before .before .before .before .before .seat-alone .ensures)
-
-any-spent-requires : tie.Need-any-spent-requires
-any-spent-requires c κs = (room-fits _ _ _ _ (c .before .before .before .before .before .before .before .before .before .before .before .before .pre .0) .boxes, omega arith)
-
-contest-requires : tie.Need-contest-requires
-contest-requires c κs = c .before .before .before .before .before .before .before .before .before .before .before .before .before .before .before .before .before .pre
-
-same-length-4 : tie.Need-same-length-4
-same-length-4 c = search needs
-
-same-length-5 : tie.Need-same-length-5
-same-length-5 c = search needs
-
-same-length-6 : tie.Need-same-length-6
-same-length-6 c = search needs
-
-returns-2 : tie.Need-returns-2
-returns-2 c = c .before .before .before .before .before .before .contest .ensures
-
-slice-aggregate-seat : tie.Need-slice-aggregate-seat
-slice-aggregate-seat c = search needs
-
-seat-requires : tie.Need-seat-requires
-seat-requires c κs = (c .before .before .before .before .before .before .before .before .before .before .before .before .before .before .before .before .before .before .pre .0, (omega arith, omega arith))
-
-same-length-7 : tie.Need-same-length-7
-same-length-7 c = search needs
-
-same-length-8 : tie.Need-same-length-8
-same-length-8 c = search needs
-
-same-length-9 : tie.Need-same-length-9
-same-length-9 c = search needs
-
-returns-3 : tie.Need-returns-3
-returns-3 c =
-    let a = c .before .before .before .before .before .before .before .before .before .before .before .before .before .before .before .before .before .before .before .before .before .before .before .before .before .args in
-    contest-free _ _ _ _ _ _ _ _ _ _ _ _ _ (no-conflict (idsOf 5 (a .inputs .now)) (boxesOf (a .boxes .now) (a .counts .records)) (sym (c .before .before .before .before .before .before .before .before .before .before .before .before .any-spent .ensures) ∙ c .before .before .before .before .before .before .before .before .before .before .before .if2 .left)) (of-none (ids 4) _) (c .before .before .before .before .before .before .seat .ensures)
+returns c = made-leaves _ _ _ _ _ _ (c .before .before .before .before .before .before .before .before .before .before .before .before .make-room .ensures) _ _ _ _ _ _ _ _ _ _ (c .before .before .before .before .before .before .find-place .ensures)
 
 pub place-spec : {M : Type 1} → statement M
 place-spec =
     tie.close
     (tie.spec
-    lowest-or-requires
-    scan-requires
-    seat-alone-requires
+    count-records-requires
+    count-records-requires-2
+    add-needed
+    make-room-requires
+    find-place-requires
     same-length
     same-length-2
     same-length-3
-    returns
-    any-spent-requires
-    contest-requires
-    same-length-4
-    same-length-5
-    same-length-6
-    returns-2
-    slice-aggregate-seat
-    seat-requires
-    same-length-7
-    same-length-8
-    same-length-9
-    returns-3)
+    returns)

@@ -1,6 +1,5 @@
 -- `records::hide_older` meets its contract: both lists are marked (`marked-both`), and the records with a mark are looked at. Assumes nothing.
 use borrow.Author.Needs.{needs}
-use native.Mathlib.Omega.{arith}
 use Rattle.boxes.specs.Marks.{marked-both}
 use Rattle.boxes.proofs.records.hide_older.Statement.{statement}
 use Rattle.boxes.proofs.records.hide_older.Tie as tie

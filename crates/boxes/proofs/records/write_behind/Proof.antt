@@ -1,17 +1,26 @@
--- `records::write_behind` meets its contract: the free tail is lent, and what the writer leaves there stands behind the used records
--- (`write-tail`). Assumes nothing.
+-- `records::write_behind` meets its contract: the free part is lent, and what the writer leaves there stands behind the used records
+-- (`write-free`). Assumes nothing.
+use Rattle.boxes.specs.Writing.{write-free, still-free}
+use Rattle.boxes.specs.Layout.{BoxesOk, boxesRoom, ok-still, ok-bound}
+use Rattle.boxes.specs.Stores.{free-ok, behind}
+use lib.ListN.{length-take, length-drop}
+use mathlib.Core.Path.{refl}
 use native.Mathlib.Omega.{arith}
 use borrow.Author.Needs.{needs}
-use mathlib.Core.Path.{refl}
-use lib.ListN.{length-take, length-drop}
-use Rattle.boxes.specs.Layout.{BoxesOk, boxesRoom, ok-still, ok-moved, ok-bound, tail-ok}
-use Rattle.boxes.specs.Writing.{write-tail}
 use Rattle.boxes.proofs.records.write_behind.Statement.{statement}
 use Rattle.boxes.proofs.records.write_behind.Tie as tie
 
 mul-from : tie.Need-mul-from
 unfolding BoxesOk boxesRoom
 mul-from c = omega arith
+
+mul-to : tie.Need-mul-to
+unfolding BoxesOk boxesRoom
+mul-to c = omega arith
+
+sub-to : tie.Need-sub-to
+unfolding BoxesOk boxesRoom
+sub-to c = omega arith
 
 mul-write-records : tie.Need-mul-write-records
 unfolding BoxesOk boxesRoom
@@ -45,8 +54,22 @@ returns c =
     record {
       kept = search needs;
       count = omega arith;
-      rows = write-tail _ _ _ (s .args .used) _ _ (ok-still _ _ _ _ (s .pre .0) refl (omega arith)) (ok-still _ _ _ _ (tail-ok _ (s .args .used) _ (s .pre .0)) (w .kept .0) (omega arith)) (w .ensures .1);
+      rows = write-free _ _ _ (s .args .used) _ _ (ok-still _ _ _ _ (s .pre .0) refl (omega arith)) (w .kept .0) (behind _ (s .args .used) _ (s .pre .0)) (ok-still _ _ _ _ (free-ok _ (s .args .used) _ (s .pre .0)) (w .kept .0) (omega arith)) (w .ensures .1);
+      still = still-free _ (w .last .0) _ (s .args .used) (ok-still _ _ _ _ (s .pre .0) refl (omega arith)) (w .kept .0) (behind _ (s .args .used) _ (s .pre .0));
     }
 
 pub write-behind-spec : {M : Type 1} → statement M
-write-behind-spec = tie.close (tie.spec mul-from mul-write-records sub-write-records part-write-records-start part-write-records-end write-records-requires add-result same-length returns)
+write-behind-spec =
+    tie.close
+    (tie.spec
+    mul-from
+    mul-to
+    sub-to
+    mul-write-records
+    sub-write-records
+    part-write-records-start
+    part-write-records-end
+    write-records-requires
+    add-result
+    same-length
+    returns)

@@ -6,15 +6,14 @@ use mathlib.Core.Path.{_≡_, refl}
 use lib.ListN.{length}
 use mathlib.Core.List.{_++_}
 use Rattle.words.specs.Ids.{idOf}
-use Rattle.boxes.specs.Entering.{newBoxes}
 use Rattle.boxes.specs.Flat.{idsOf}
-use Rattle.boxes.specs.Layout.{boxesOf, ok-still, ok-bound}
-use Rattle.boxes.specs.Writing.{whole, write-none, write-more, write-all}
+use Rattle.boxes.specs.Layout.{slotsOf, ok-still, ok-bound}
+use Rattle.boxes.specs.Writing.{news, whole, write-none, write-more, write-all}
 use Rattle.boxes.proofs.records.write_list.Statement.{statement}
 use Rattle.boxes.proofs.records.write_list.Tie as tie
 
 abbrev Inv-loop : tie.InvT-loop
-Inv-loop tail₀ at owner out list width n i₀ tail i = (i ≤ n) × (length tail ≡ length tail₀) × (whole out (idOf owner) width list tail at i ≡ boxesOf tail₀ at ++ newBoxes out (idOf owner) (idsOf width list))
+Inv-loop tail₀ at owner out list width n i₀ tail i = (i ≤ n) × (length tail ≡ length tail₀) × (whole out (idOf owner) width list tail at i ≡ slotsOf tail₀ at ++ news out (idOf owner) (idsOf width list))
 
 abbrev μ-loop : tie.MeasureT-loop
 μ-loop tail₀ at owner out list width n i₀ tail i = n - i

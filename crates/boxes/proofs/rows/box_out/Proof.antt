@@ -21,7 +21,7 @@ unfolding BoxesOk boxesRoom
 shared-slice-read-result c = omega arith
 
 returns : tie.Need-returns
-returns c = out-at _ _
+returns c = out-at _ _ (c .before .pre)
 
 pub box-out-spec : {M : Type 1} → statement M
 box-out-spec = tie.close (tie.spec mul-result add-result mul-result-2 shared-slice-read-result returns)

@@ -1,7 +1,8 @@
--- `rows::hide_box` meets its contract: one word is stored (`hide-row`). It knows the layout. Assumes nothing.
+-- `rows::hide_box` meets its contract: one word is stored (`hide-put`). It knows the layout. Assumes nothing.
+use Rattle.boxes.specs.Layout.{BoxesOk, boxesRoom}
+use Rattle.boxes.specs.Stores.{hide-put}
 use native.Mathlib.Omega.{arith}
 use borrow.Author.Needs.{needs}
-use Rattle.boxes.specs.Layout.{BoxesOk, boxesRoom, hide-row}
 use Rattle.boxes.proofs.rows.hide_box.Statement.{statement}
 use Rattle.boxes.proofs.rows.hide_box.Tie as tie
 
@@ -25,7 +26,7 @@ same-length : tie.Need-same-length
 same-length c = search needs
 
 returns : tie.Need-returns
-returns c = hide-row _ _ (c .pre)
+returns c = hide-put _ _ (c .pre)
 
 pub hide-box-spec : {M : Type 1} → statement M
 hide-box-spec = tie.close (tie.spec mul-s add-s mul-s-2 slice-write-s same-length returns)

@@ -1,26 +1,24 @@
--- `rows::store_box` meets its contract. It knows the layout: it unfolds `BoxesOk` and cites `put-row`. Assumes nothing.
-use native.Mathlib.Omega.{arith}
+-- `rows::store_box` meets its contract: a record with its flags (`put-row`). Assumes nothing.
+use Rattle.boxes.specs.Stores.{put-row}
 use borrow.Author.Needs.{needs}
-use Prim.Native.Nat.{ℕ}
-use mathlib.Core.List.{List}
-use mathlib.Core.Path.{ap, _∙_}
-use Rattle.boxes.specs.Layout.{BoxesOk, boxesRoom, boxesOf, put-row}
 use Rattle.boxes.proofs.rows.store_box.Statement.{statement}
 use Rattle.boxes.proofs.rows.store_box.Tie as tie
 
-mul-put-row : tie.Need-mul-put-row
-unfolding BoxesOk boxesRoom
-mul-put-row c = omega arith
+flag-requires : tie.Need-flag-requires
+flag-requires c κs = search needs
 
-put-row-requires : tie.Need-put-row-requires
-unfolding BoxesOk boxesRoom
-put-row-requires c κs = omega arith
+flag-requires-2 : tie.Need-flag-requires-2
+flag-requires-2 c κs = search needs
+
+put-words-requires : tie.Need-put-words-requires
+put-words-requires c κs = search needs
 
 same-length : tie.Need-same-length
 same-length c = search needs
 
 returns : tie.Need-returns
-returns c = λ m. ap (λ (l : List ℕ). boxesOf l m) (c .before .before .put-row .ensures) ∙ put-row _ _ _ (c .before .before .before .before .before .pre) m
+returns c = put-row _ _ _ (c .before .before .before .before .before .before .before .before .before .args .b) _ _ (c .before .before .before .before .flag .ensures) (c .before .before .before .flag2 .ensures) (c .before .before .put-words .ensures)
 
 pub store-box-spec : {M : Type 1} → statement M
-store-box-spec = tie.close (tie.spec mul-put-row put-row-requires same-length returns)
+store-box-spec =
+    tie.close (tie.spec flag-requires flag-requires-2 put-words-requires same-length returns)

@@ -1,22 +1,24 @@
--- `conflicts::any_marked` meets its contract. The loop's invariant: the records from i on say what all of them say. Assumes nothing.
+-- `conflicts::any_marked` meets its contract. The loop's invariant: the slots from i on say what all records say. Assumes nothing.
 use native.Mathlib.Omega.{arith}
 use Prim.Native.Nat.{_-_}
 use mathlib.Core.Path.{_≡_, refl, sym, _∙_}
 use lib.ListN.{drop}
 use Rattle.boxes.specs.Flat.{idsOf}
-use Rattle.boxes.specs.Layout.{boxesOf, ok-still, ok-bound}
-use Rattle.indexes.specs.Spent.{anySpent, spent-hit, spent-miss, spent-end}
+use Rattle.boxes.specs.Layout.{boxesOf, rowsOf, ok-still, ok-bound}
+use Rattle.indexes.specs.Spent.{anySpent, spent-hit, spent-miss, spent-end, spent-rows}
 use Rattle.indexes.proofs.conflicts.any_marked.Statement.{statement}
 use Rattle.indexes.proofs.conflicts.any_marked.Tie as tie
 
 abbrev Inv-loop : tie.InvT-loop
-Inv-loop s used marks inputs width i₀ i = anySpent (idsOf width inputs) (drop i (boxesOf s used)) ≡ anySpent (idsOf width inputs) (boxesOf s used)
+Inv-loop s used marks inputs width i₀ i = anySpent (idsOf width inputs) (drop i (rowsOf s used)) ≡ anySpent (idsOf width inputs) (boxesOf s used)
 
 abbrev μ-loop : tie.MeasureT-loop
 μ-loop s used marks inputs width i₀ i = used - i
 
 loop-holds : tie.Need-loop-holds Inv-loop μ-loop
-loop-holds c = refl
+loop-holds c =
+    let a = c .before .before .before .args in
+    spent-rows (idsOf (a .width) (a .inputs .now)) (a .s .now) (a .used)
 
 spends-one-requires : tie.Need-spends-one-requires Inv-loop μ-loop
 spends-one-requires c κs = (ok-still _ _ _ _ (c .before .before .before .before .before .pre .0) refl (omega arith), c .before .before .before .before .before .pre .1)

@@ -1,4 +1,4 @@
--- `inputs::all_listed` meets its contract. The loop's invariant: the inputs in the records from i on say what all say. Assumes nothing.
+-- `inputs::all_listed` meets its contract. The loop's invariant: the inputs in the slots from i on say what all say. Assumes nothing.
 use native.Mathlib.Omega.{arith}
 use Prim.Native.Nat.{_-_}
 use mathlib.Core.Path.{_≡_, refl, sym, ap, _∙_}
@@ -7,19 +7,21 @@ use lib.ListN.{drop}
 use Rattle.words.specs.Ids.{idOf}
 use Rattle.boxes.specs.Records.{inputsOf}
 use Rattle.boxes.specs.Flat.{idsOf}
-use Rattle.boxes.specs.Layout.{boxesOf, ok-still, ok-bound}
+use Rattle.boxes.specs.Layout.{boxesOf, rowsOf, inputs-rows, ok-still, ok-bound}
 use Rattle.indexes.specs.Inputs.{allAmong, input-no, input-end, all-fails, all-goes-on}
 use Rattle.indexes.proofs.inputs.all_listed.Statement.{statement}
 use Rattle.indexes.proofs.inputs.all_listed.Tie as tie
 
 abbrev Inv-loop : tie.InvT-loop
-Inv-loop s used id list i₀ i = allAmong (idsOf 4 list) (inputsOf (idOf id) (drop i (boxesOf s used))) ≡ allAmong (idsOf 4 list) (inputsOf (idOf id) (boxesOf s used))
+Inv-loop s used id list i₀ i = allAmong (idsOf 4 list) (inputsOf (idOf id) (drop i (rowsOf s used))) ≡ allAmong (idsOf 4 list) (inputsOf (idOf id) (boxesOf s used))
 
 abbrev μ-loop : tie.MeasureT-loop
 μ-loop s used id list i₀ i = used - i
 
 loop-holds : tie.Need-loop-holds Inv-loop μ-loop
-loop-holds c = refl
+loop-holds c =
+    let a = c .before .before .args in
+    ap (allAmong (idsOf 4 (a .list .now))) (inputs-rows (idOf (a .id)) (a .s .now) (a .used))
 
 is-input-requires : tie.Need-is-input-requires Inv-loop μ-loop
 is-input-requires c κs = ok-still _ _ _ _ (c .before .before .before .before .pre) refl (omega arith)

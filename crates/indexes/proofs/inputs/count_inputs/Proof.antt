@@ -1,4 +1,4 @@
--- `inputs::count_inputs` meets its contract. The loop's invariant is `Counting`: the first `at` records hold n inputs. Assumes nothing.
+-- `inputs::count_inputs` meets its contract. The loop's invariant is `Counting`: the first `at` slots hold n inputs. Assumes nothing.
 use native.Mathlib.Omega.{arith}
 use Prim.Native.Nat.{_-_}
 use mathlib.Core.Path.{refl, sym, _∙_}

@@ -1,4 +1,4 @@
--- `inputs::last_parent` meets its contract. The loop's invariant is `Seeking`: the first `at` records give the answer. A transaction
+-- `inputs::last_parent` meets its contract. The loop's invariant is `Seeking`: the first `at` slots give the answer. A transaction
 -- that is seen to have no parent needs no search (`none-last`). Assumes nothing.
 use native.Mathlib.Omega.{arith}
 use Prim.Native.Nat.{min}
@@ -6,14 +6,14 @@ use mathlib.Core.Path.{_≡_, refl}
 use mathlib.Core.Bool.{true}
 use Rattle.words.specs.Ids.{idOf}
 use Rattle.boxes.specs.Records.{index, lookup}
-use Rattle.boxes.specs.Layout.{boxesOf, ok-still}
+use Rattle.boxes.specs.Layout.{rowsOf, ok-still}
 use Rattle.indexes.specs.Seeking.{Seeking, seek-first, seek-none, seek-end, seek-hit, seek-miss}
 use Rattle.indexes.specs.Parents.{lookup-one}
 use Rattle.indexes.proofs.inputs.last_parent.Statement.{statement}
 use Rattle.indexes.proofs.inputs.last_parent.Tie as tie
 
 abbrev Inv-loop : tie.InvT-loop
-Inv-loop s used id n at₀ at = Seeking (lookup (index true (boxesOf s used))) s used (idOf id) n at
+Inv-loop s used id n at₀ at = Seeking (lookup (index true (rowsOf s used))) s used (idOf id) n at
 
 abbrev μ-loop : tie.MeasureT-loop
 μ-loop s used id n at₀ at = at
@@ -28,7 +28,7 @@ returns : tie.Need-returns Inv-loop μ-loop
 returns c =
     let a = c .before .before .before .before .args in
     let e : c .before .before .least .result ≡ min (a .n) (a .used) = omega arith in
-    seek-none (lookup (index true (boxesOf (a .s .now) (a .used)))) (a .s .now) (a .used) (idOf (a .id)) (a .n) (lookup-one (index true (boxesOf (a .s .now) (a .used)))) _ e (c .before .no-parent .ensures (c .if1 .taken))
+    seek-none (lookup (index true (rowsOf (a .s .now) (a .used)))) (a .s .now) (a .used) (idOf (a .id)) (a .n) (lookup-one (index true (rowsOf (a .s .now) (a .used)))) _ e (c .before .no-parent .ensures (c .if1 .taken))
 
 loop-holds : tie.Need-loop-holds Inv-loop μ-loop
 loop-holds c =

@@ -4,7 +4,8 @@ use mathlib.Core.Path.{sym, _∙_}
 use mathlib.Core.Bool.{true}
 use Rattle.words.specs.Ids.{idOf}
 use Rattle.boxes.specs.Records.{index, lookup}
-use Rattle.boxes.specs.Layout.{boxAt, boxesOf}
+use Rattle.boxes.specs.Layout.{boxAt, rowsOf}
+use Rattle.indexes.specs.Owners.{lookup-rows}
 use Rattle.indexes.specs.Seeking.{tried-input, tried-other}
 use Rattle.indexes.proofs.inputs.parent_at.Statement.{statement}
 use Rattle.indexes.proofs.inputs.parent_at.Tie as tie
@@ -21,13 +22,13 @@ producer-requires c κs = search needs
 returns : tie.Need-returns
 returns c =
     let a = c .before .before .before .before .before .args in
-    let f = lookup (index true (boxesOf (a .s .now) (a .used))) in
-    tried-input f (idOf (a .id)) (boxAt (a .s .now) (a .at)) _ (sym (c .before .before .before .is-input .ensures) ∙ c .before .before .if1 .taken) (c .before .box-key .ensures) (c .producer .ensures)
+    let f = lookup (index true (rowsOf (a .s .now) (a .used))) in
+    tried-input f (idOf (a .id)) (boxAt (a .s .now) (a .at)) _ (sym (c .before .before .before .is-input .ensures) ∙ c .before .before .if1 .taken) (c .before .box-key .ensures) (c .producer .ensures ∙ sym (lookup-rows true (a .s .now) (a .used) _))
 
 returns-2 : tie.Need-returns-2
 returns-2 c =
     let a = c .before .before .before .args in
-    let f = lookup (index true (boxesOf (a .s .now) (a .used))) in
+    let f = lookup (index true (rowsOf (a .s .now) (a .used))) in
     tried-other f (idOf (a .id)) (boxAt (a .s .now) (a .at)) (sym (c .before .is-input .ensures) ∙ c .if1 .left)
 
 pub parent-at-spec : {M : Type 1} → statement M

@@ -1,4 +1,4 @@
--- `orphans::is_listed` meets its contract. The loop's invariant: the inputs in the records from i on say what all of them say. Assumes nothing.
+-- `orphans::is_listed` meets its contract. The loop's invariant: the inputs in the slots from i on say what all of them say. Assumes nothing.
 use native.Mathlib.Omega.{arith}
 use Prim.Native.Nat.{_-_}
 use mathlib.Core.Path.{_≡_, refl, sym, ap, _∙_}
@@ -6,14 +6,14 @@ use lib.ListN.{drop}
 use Rattle.words.specs.Ids.{idOf}
 use Rattle.boxes.specs.Among.{among}
 use Rattle.boxes.specs.Records.{inputsOf}
-use Rattle.boxes.specs.Layout.{boxesOf, ok-still, ok-bound}
+use Rattle.boxes.specs.Layout.{rowsOf, ok-still, ok-bound}
 use Rattle.indexes.specs.Inputs.{input-no, input-end}
 use Rattle.indexes.specs.Orphans.{listed-hit, listed-on}
 use Rattle.indexes.proofs.orphans.is_listed.Statement.{statement}
 use Rattle.indexes.proofs.orphans.is_listed.Tie as tie
 
 abbrev Inv-loop : tie.InvT-loop
-Inv-loop s to id from key i₀ i = among (idOf key) (inputsOf (idOf id) (drop i (boxesOf s to))) ≡ among (idOf key) (inputsOf (idOf id) (drop from (boxesOf s to)))
+Inv-loop s to id from key i₀ i = among (idOf key) (inputsOf (idOf id) (drop i (rowsOf s to))) ≡ among (idOf key) (inputsOf (idOf id) (drop from (rowsOf s to)))
 
 abbrev μ-loop : tie.MeasureT-loop
 μ-loop s to id from key i₀ i = to - i

@@ -1,4 +1,4 @@
--- `owners::owner_of` meets its contract. The loop's invariant: the records from i on give the owner that all of them give. Assumes nothing.
+-- `owners::owner_of` meets its contract. The loop's invariant: the slots from i on give the owner that all records give. Assumes nothing.
 use native.Mathlib.Omega.{arith}
 use Prim.Native.Nat.{_-_}
 use mathlib.Core.Path.{_≡_, refl, sym, ap, _∙_}
@@ -6,19 +6,21 @@ use mathlib.Core.List.{_∷_, []}
 use lib.ListN.{drop}
 use Rattle.words.specs.Ids.{idOf}
 use Rattle.boxes.specs.Records.{index, lookup}
-use Rattle.boxes.specs.Layout.{boxesOf, ok-still, ok-bound}
-use Rattle.indexes.specs.Owners.{lookup-hit, lookup-miss, lookup-end}
+use Rattle.boxes.specs.Layout.{boxesOf, rowsOf, ok-still, ok-bound}
+use Rattle.indexes.specs.Owners.{lookup-hit, lookup-miss, lookup-end, lookup-rows}
 use Rattle.indexes.proofs.owners.owner_of.Statement.{statement}
 use Rattle.indexes.proofs.owners.owner_of.Tie as tie
 
 abbrev Inv-loop : tie.InvT-loop
-Inv-loop s used out key i₀ i = lookup (index out (drop i (boxesOf s used))) (idOf key) ≡ lookup (index out (boxesOf s used)) (idOf key)
+Inv-loop s used out key i₀ i = lookup (index out (drop i (rowsOf s used))) (idOf key) ≡ lookup (index out (boxesOf s used)) (idOf key)
 
 abbrev μ-loop : tie.MeasureT-loop
 μ-loop s used out key i₀ i = used - i
 
 loop-holds : tie.Need-loop-holds Inv-loop μ-loop
-loop-holds c = refl
+loop-holds c =
+    let a = c .before .args in
+    lookup-rows (a .out) (a .s .now) (a .used) (idOf (a .key))
 
 is-entry-requires : tie.Need-is-entry-requires Inv-loop μ-loop
 is-entry-requires c κs = ok-still _ _ _ _ (c .before .before .before .pre) refl (omega arith)

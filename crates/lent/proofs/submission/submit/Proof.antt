@@ -52,7 +52,9 @@ returns-2 : tie.Need-returns-2
 returns-2 c = λ ys l q. offers _ _ _ _ _ _ (claims-as (stopped _ _ _ _ _ _ _ (placed ys (c .before .before .before .before .before .before .before .before .before .before .before .before .before .before .before .before .before .before .args .sub) (fitted _ _ _ _ _ ys (c .before .before .before .before .before .before .before .before .fits-lent .ensures) (c .before .before .before .before .before .before .before .if1 .left) l) l (c .before .before .before .before .before .before .standing-for .ensures) q) (c .before .before .check .ensures) (c .before .if2 .taken)) (claims-refused _ _ _ _ _ _ (fitted _ _ _ _ _ ys (c .before .before .before .before .before .before .before .before .fits-lent .ensures) (c .before .before .before .before .before .before .before .if1 .left) l) _ (c .no-due2 .ensures)))
 
 judge-requires : tie.Need-judge-requires
-judge-requires c κs = (ready _ _ _ _ _ (c .before .before .before .before .before .before .before .before .before .before .before .fits-lent .ensures) (c .before .before .before .before .before .before .before .before .before .before .if1 .left), passed _ _ _ _ _ _ _ _ _ _ (sym (c .before .before .before .before .before .check .ensures) ∙ c .before .before .before .before .if2 .left))
+judge-requires c κs =
+    let f = ready _ _ _ _ _ (c .before .before .before .before .before .before .before .before .before .before .before .fits-lent .ensures) (c .before .before .before .before .before .before .before .before .before .before .if1 .left) in
+    (f, passed _ _ _ _ _ _ _ _ _ _ (f .tests .pool) (sym (c .before .before .before .before .before .check .ensures) ∙ c .before .before .before .before .if2 .left))
 
 same-length-7 : tie.Need-same-length-7
 same-length-7 c = search needs
