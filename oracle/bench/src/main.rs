@@ -83,6 +83,11 @@ fn main() {
     println!("a submission (2 inputs, 3 outputs; both sides agree on every answer)");
     let whole = sizes.map(|pooled| submission::KINDS.map(|kind| submission::measure(pooled, kind)));
 
+    println!("submissions in a row to a full pool (both sides agree on every answer and on the pool that is left)");
+    for pooled in sizes {
+        submission::steady(pooled, 5_000);
+    }
+
     println!("beside the base weight ({base:.1} ns) and one lookup: the port's submission with no parent");
     for (i, pooled) in sizes.into_iter().enumerate() {
         let all = whole[i][0];

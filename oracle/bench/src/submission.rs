@@ -1,5 +1,6 @@
 //! A whole submission, in the port and in the Rust.
 
+use std::collections::BTreeSet;
 use std::hint::black_box;
 use std::time::Instant;
 
@@ -162,7 +163,7 @@ pub fn measure(pooled: usize, kind: Kind) -> f64 {
         .map(|_| {
             // Anywhere in the order; above the lowest where one has to go.
             let least = if kind == Kind::Full { 50_000_000 } else { 1_000_000 };
-            let fee = pools.rng.between(least, 100_000_000);
+            let fee = pools.rng.between(least, least + 99_000_000);
             let parent = tail.pop();
             pools.tx(parent, 3, fee)
         })
@@ -196,4 +197,54 @@ pub fn measure(pooled: usize, kind: Kind) -> f64 {
         here / rust
     );
     here
+}
+
+/// As many submissions in a row as `rows` to a full pool, each of which evicts one, on either side by one clock: what is put off to a later submission is in
+/// the mean. Prints microseconds for one.
+pub fn steady(pooled: usize, rows: usize) {
+    let mut pools = Pools::new(pooled);
+    let mut fees: BTreeSet<u64> = pools.fill(pooled).iter().map(|tx| tx.outputs[0].value).collect();
+    let txs: Vec<Tx> = (0..rows)
+        .map(|_| {
+            // Above the lowest, and none twice, so that each takes a place.
+            let least = *fees.first().expect("a full pool has a lowest") + 1;
+            let fee = loop {
+                let fee = pools.rng.between(least, least + 99_000_000);
+                if fees.insert(fee) {
+                    break fee;
+                }
+            };
+            while fees.len() > pooled {
+                fees.pop_first();
+            }
+            pools.tx(None, 3, fee)
+        })
+        .collect();
+
+    let words: Vec<Submission> = txs.iter().map(Submission::of).collect();
+    let (mut here, mut rust) = (f64::MAX, f64::MAX);
+    for _ in 0..3 {
+        let mut port = pools.port.clone();
+        timed(&mut here, || {
+            for call in &words {
+                assert_eq!(port.process(black_box(call), FULL.answer_words), port::ACCEPTED);
+            }
+        });
+        let mut pool = pools.rust.deep_clone();
+        let mut calls: Vec<Call> = txs.iter().map(Call::of).collect();
+        timed(&mut rust, || {
+            for call in &mut calls {
+                assert_eq!(outcome(&call.submit(&mut pool)), port::ACCEPTED);
+            }
+        });
+        let ids = pool.all_prioritized().into_iter().map(|utx| utx.tx.id().0);
+        assert!(ids.eq(port.top(usize::MAX).iter().map(|row| row.id)));
+    }
+    let (rust, here) = (rust / rows as f64, here / rows as f64);
+    println!(
+        "{pooled:5} pooled, full: {rows} in a row     rust {:8.2} us   port {:8.2} us   ratio {:.2}",
+        rust / 1_000.0,
+        here / 1_000.0,
+        here / rust
+    );
 }
