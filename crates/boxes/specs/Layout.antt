@@ -10,11 +10,11 @@ use native.Mathlib.Nat.{add-zero}
 use native.Mathlib.Omega.{arith}
 use lib.ListN.{length, getD, drop, set, length-append}
 use lib.Dec.{eqb, ltb}
-use borrow.Author.Tests.{eqb-true, ne-eqb, lt-ltb}
+use borrow.Author.Tests.{eqb-true, lt-ltb}
 use Rattle.words.specs.Lists.{pick, keep}
 use Rattle.words.specs.Rows.{tab, length-tab, getD-tab, take-tab, tab-ext, map-tab}
 use Rattle.words.specs.Tables.{Table, of-none, of-suc}
-use Rattle.words.specs.Ids.{num, idOf, idAt, Words, id-inj}
+use Rattle.words.specs.Ids.{num, idOf, idAt, Words}
 use Rattle.words.specs.declared.ids.Id.{Id}
 use Rattle.boxes.specs.Records.{BoxRec, index, inputsOf, dropOwner}
 use Rattle.boxes.specs.Each.{Each}
@@ -211,7 +211,3 @@ module _ (l : List ℕ) (i : ℕ) (h : BoxesOk l (i + 1)) where
   unfolding boxAt
   read-at p q r s =
       (λ t. slotOf (p t) (q t) (r t) (s t)) ∙ (λ t. slotOf (here t .row .box) (here t .row .owner) (front l i 6) (front l i 7)) ∙ sym here
-
--- ids whose last words differ are different
-pub last-differs : (x y : Id) (k : ℕ) → Words x → Words y → idOf x ≡ k → (x .d ≡ y .d → ⊥) → eqb k (idOf y) ≡ false
-last-differs x y k v w e n = ne-eqb k (idOf y) (λ q. n (id-inj x y v w (e ∙ q) .3))

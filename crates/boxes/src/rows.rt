@@ -61,28 +61,20 @@ pub fn box_owner(s: &[u64], at: usize) -> Id
     }
 }
 
-// Whether it is of a box. The last word is looked at first: it stands at the back.
+// Whether it is of a box.
 pub fn is_box(s: &[u64], at: usize, key: Id) -> bool
     requires { ⌜ BoxesOk (now s) (at + 1) ⌝ }
     ensures { λ r. ⌜ r ≡ eqb (boxAt (now (s .entry)) at .box) (idOf key) ⌝ }
 {
-    let x = box_key(s, at);
-    if x.d != key.d {
-        return false;
-    }
-    same_id(x, key)
+    same_id(box_key(s, at), key)
 }
 
-// Whether a transaction owns it, likewise.
+// Whether a transaction owns it.
 pub fn is_owner(s: &[u64], at: usize, owner: Id) -> bool
     requires { ⌜ BoxesOk (now s) (at + 1) ⌝ }
     ensures { λ r. ⌜ r ≡ eqb (boxAt (now (s .entry)) at .owner) (idOf owner) ⌝ }
 {
-    let x = box_owner(s, at);
-    if x.d != owner.d {
-        return false;
-    }
-    same_id(x, owner)
+    same_id(box_owner(s, at), owner)
 }
 
 // Whether it is an output of its owner.

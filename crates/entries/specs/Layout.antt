@@ -11,12 +11,11 @@ use native.Mathlib.Omega.{arith}
 use lib.ListN.{length, getD, take, drop, set, replicate, length-take, length-drop}
 use lib.Seq.{getD-set-other, getD-drop, take-suc}
 use lib.Dec.{eqb}
-use borrow.Author.Tests.{eqb-true, eqb-false, ne-eqb}
+use borrow.Author.Tests.{eqb-true, eqb-false}
 use Rattle.words.specs.Lists.{pick}
 use Rattle.words.specs.Rows.{stored, stored-append, blk, blk-word, blk-lit, recAt, recs, length-recs, getD-recs, take-recs, recs-store}
 use Rattle.words.specs.Tables.{Table}
-use Rattle.words.specs.Ids.{idOf, idAt, wordsAt, idWords, Words, id-inj}
-use Rattle.words.specs.declared.ids.Id.{Id}
+use Rattle.words.specs.Ids.{idOf, idAt, idWords}
 use Rattle.entries.specs.Entries.{Entry}
 use Rattle.entries.specs.declared.fields.PoolEntry.{PoolEntry}
 use Rattle.entries.specs.declared.fields.ValidationCost.{ValidationCost}
@@ -140,14 +139,6 @@ word-at l i j h = sym (blk-word 14 l i j (h .1)) ∙ field-word (blk 14 l i) j h
 pub id-at : (l : List ℕ) (i : ℕ) → idAt l (i * 14) ≡ entryAt l i .id
 unfolding idAt entryAt recAt entryDec
 id-at l i = simp (blk-lit 14 l i, tt {0}, add-zero)
-
--- ids whose last words differ are different
-pub last-differs : (l : List ℕ) (i : ℕ) (x : Id) → Words (wordsAt l (i * 14)) → Words x → (getD l (i * 14 + 3) 0 ≡ x .d → ⊥) → eqb (entryAt l i .id) (idOf x) ≡ false
-unfolding idOf idAt
-last-differs l i x v w n = ne-eqb _ _ (λ e. n (id-inj (wordsAt l (i * 14)) x v w (same ∙ e) .3))
-  where
-    same : idOf (wordsAt l (i * 14)) ≡ entryAt l i .id
-    same = id-at l i
 
 pub cost-at : (l : List ℕ) (i : ℕ) → costOf (getD l (i * 14 + 8) 0) (getD l (i * 14 + 9) 0) ≡ entryAt l i .validationCost
 unfolding entryAt recAt entryDec

@@ -56,14 +56,11 @@ pub fn id_at(s: &[u64], i: usize) -> Id
     load_id(s, i * 14)
 }
 
-// Whether the entry at rank i has this id. The last word is looked at first: ids differ there most.
+// Whether the entry at rank i has this id.
 pub fn is_at(s: &[u64], i: usize, id: Id) -> bool
     requires { ⌜ EntriesOk (now s) (i + 1) ⌝ }
     ensures { λ r. ⌜ r ≡ eqb (entryAt (now (s .entry)) i .id) (idOf id) ⌝ }
 {
-    if s[i * 14 + 3] != id.d {
-        return false;
-    }
     same_id(id_at(s, i), id)
 }
 

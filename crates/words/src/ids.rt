@@ -54,19 +54,20 @@ pub fn put_id(s: &mut [u64], at: usize, x: Id)
     put_four(s, at, x.a, x.b, x.c, x.d);
 }
 
+// From the last word on: ids differ there most, and tables keep it where it is read first.
 pub fn same_id(x: Id, y: Id) -> bool
     ensures { λ r. ⌜ r ≡ eqb (idOf x) (idOf y) ⌝ }
 {
-    if x.a != y.a {
-        return false;
-    }
-    if x.b != y.b {
+    if x.d != y.d {
         return false;
     }
     if x.c != y.c {
         return false;
     }
-    if x.d != y.d {
+    if x.b != y.b {
+        return false;
+    }
+    if x.a != y.a {
         return false;
     }
     true

@@ -1,6 +1,9 @@
 -- `pool::remove` meets its contract: whether the id was pooled shows in the count of entries (`removed-nothing`, `removed-both`). Assumes nothing.
 use Rattle.pool.specs.Steps.{removed-nothing, removed-both}
 use borrow.Author.Needs.{needs}
+use native.Mathlib.Omega.{arith}
+use mathlib.Core.Path.{refl}
+use Rattle.boxes.specs.Layout.{ok-still}
 use Rattle.pool.proofs.remove.Statement.{statement}
 use Rattle.pool.proofs.remove.Tie as tie
 
@@ -14,7 +17,7 @@ returns : tie.Need-returns
 returns c = removed-nothing _ _ _ _ _ _ (c .before .before .before .before .before .before .before .before .pre) (c .before .before .before .before .remove-entry .ensures) (c .if1 .taken)
 
 drop-owner-requires : tie.Need-drop-owner-requires
-drop-owner-requires c κs = search needs
+drop-owner-requires c κs = ok-still _ _ _ _ (c .before .before .before .before .before .before .before .before .before .pre .boxes) refl (omega arith)
 
 same-length-2 : tie.Need-same-length-2
 same-length-2 c = search needs

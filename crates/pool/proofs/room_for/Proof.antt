@@ -1,8 +1,9 @@
 -- `pool::room_for` meets its contract: its tests are those of `noRoom`, turned round (`room-none`, `room-plenty`, `room-some`). Assumes nothing.
 use Rattle.pool.specs.Laws.{room-none, room-plenty, room-some}
-use Rattle.boxes.specs.Layout.{ok-room, boxes-few}
+use Rattle.boxes.specs.Layout.{ok-room, ok-still, boxes-few}
 use native.Mathlib.Omega.{arith}
 use borrow.Author.Needs.{needs}
+use mathlib.Core.Path.{refl}
 use Rattle.pool.proofs.room_for.Statement.{statement}
 use Rattle.pool.proofs.room_for.Tie as tie
 
@@ -22,7 +23,7 @@ returns-2 : tie.Need-returns-2
 returns-2 c = room-plenty _ _ _ _ (c .before .before .before .before .before .entries-room .ensures) (c .before .before .boxes-room .ensures) (c .before .before .before .if1 .left) (omega (arith, ok-room _ _ (c .before .before .before .before .before .before .before .before .pre .boxes), c .before .before .boxes-room .ensures)) (c .if2 .taken)
 
 count-boxes-requires : tie.Need-count-boxes-requires
-count-boxes-requires c κs = search needs
+count-boxes-requires c κs = ok-still _ _ _ _ (c .before .before .before .before .before .before .before .before .pre .boxes) refl (omega arith)
 
 sub-result : tie.Need-sub-result
 sub-result c = omega (arith, ok-room _ _ (c .before .before .before .before .before .before .before .before .before .pre .boxes), c .before .before .before .boxes-room .ensures, c .count-boxes .ensures, boxes-few (c .before .before .before .before .before .before .before .before .before .args .boxes .now) (c .before .before .before .before .before .before .before .before .before .args .counts .records))

@@ -7,16 +7,16 @@ use Rattle.words.proofs.ids.same_id.Statement.{statement}
 use Rattle.words.proofs.ids.same_id.Tie as tie
 
 returns : tie.Need-returns
-returns c = let a = c .before .before .before .args in sym (ne-eqb (idOf (a .x)) (idOf (a .y)) (λ e. c .if1 .taken (id-inj (a .x) (a .y) (omega arith) (omega arith) e .0)))
+returns c = let a = c .before .before .before .args in sym (ne-eqb (idOf (a .x)) (idOf (a .y)) (λ e. c .if1 .taken (id-inj (a .x) (a .y) (omega arith) (omega arith) e .3)))
 
 returns-2 : tie.Need-returns-2
-returns-2 c = let a = c .before .before .before .before .before .before .args in sym (ne-eqb (idOf (a .x)) (idOf (a .y)) (λ e. c .if2 .taken (id-inj (a .x) (a .y) (omega arith) (omega arith) e .1)))
+returns-2 c = let a = c .before .before .before .before .before .before .args in sym (ne-eqb (idOf (a .x)) (idOf (a .y)) (λ e. c .if2 .taken (id-inj (a .x) (a .y) (omega arith) (omega arith) e .2)))
 
 returns-3 : tie.Need-returns-3
-returns-3 c = let a = c .before .before .before .before .before .before .before .before .before .args in sym (ne-eqb (idOf (a .x)) (idOf (a .y)) (λ e. c .if3 .taken (id-inj (a .x) (a .y) (omega arith) (omega arith) e .2)))
+returns-3 c = let a = c .before .before .before .before .before .before .before .before .before .args in sym (ne-eqb (idOf (a .x)) (idOf (a .y)) (λ e. c .if3 .taken (id-inj (a .x) (a .y) (omega arith) (omega arith) e .1)))
 
 returns-4 : tie.Need-returns-4
-returns-4 c = let a = c .before .before .before .before .before .before .before .before .before .before .before .before .args in sym (ne-eqb (idOf (a .x)) (idOf (a .y)) (λ e. c .if4 .taken (id-inj (a .x) (a .y) (omega arith) (omega arith) e .3)))
+returns-4 c = let a = c .before .before .before .before .before .before .before .before .before .before .before .before .args in sym (ne-eqb (idOf (a .x)) (idOf (a .y)) (λ e. c .if4 .taken (id-inj (a .x) (a .y) (omega arith) (omega arith) e .0)))
 
 returns-5 : tie.Need-returns-5
 unfolding idOf
