@@ -9,7 +9,7 @@ use oracle::rng::Rng;
 use port::{
     id_of, words_of, Block, GivenBack, Port, Row, Submission, APPLIED, BLOCK_TX_WORDS, CANDIDATE,
     DONE, ENDED, ENTRY_WORDS, FULL, ID_WORDS, INPUT_WORDS, INVALID, MISSING, OUTPUT_WORDS,
-    RECORD_WORDS, RETURN_OUTPUT_WORDS, VALID, VERDICT_NEEDED,
+    RECORD_WORDS, RETURN_OUTPUT_WORDS, SLOT_WORDS, VALID, VERDICT_NEEDED,
 };
 
 use crate::tally::{self, Tally};
@@ -589,16 +589,19 @@ impl<'a> Script<'a> {
         }
         self.calls += 1;
         let whole = self.port.clone();
-        let (entries, records) = (self.port.len() * ENTRY_WORDS, self.port.records() * RECORD_WORDS);
+        let (entries, slots) = (self.port.len() * ENTRY_WORDS, self.port.slots());
+        let (front, back) = (slots * SLOT_WORDS, slots * (RECORD_WORDS - SLOT_WORDS));
         for _ in 0..self.rng.between(1, 30) {
-            let (table, used) = match self.rng.below(4) {
-                0 => (&mut self.port.entries, entries),
-                1 => (&mut self.port.peers, 20),
-                _ => (&mut self.port.boxes, records),
+            // The last words of a record's ids stand at the back of the area.
+            let (table, from, used) = match self.rng.below(5) {
+                0 => (&mut self.port.entries, 0, entries),
+                1 => (&mut self.port.peers, 0, 20),
+                2 => (&mut self.port.boxes, FULL.records * RECORD_WORDS - back - 10, back),
+                _ => (&mut self.port.boxes, 0, front),
             };
-            let at = self.rng.below(used as u64 + 10) as usize;
-            let other = table[self.rng.below(used as u64 + 10) as usize];
-            table[at] = self.rng.pick(&[0, 1, u64::MAX, other, other, other]);
+            let at = from + self.rng.below(used as u64 + 10) as usize;
+            let other = table[from + self.rng.below(used as u64 + 10) as usize];
+            table[at] = self.rng.pick(&[0, 1, 2, u64::MAX, other, other, other]);
         }
         for _ in 0..self.rng.below(4) {
             let at = self.rng.below(self.port.state.len() as u64) as usize;
@@ -645,7 +648,7 @@ impl<'a> Script<'a> {
         if there.0 == FULL.entries - 1 {
             self.tally.meet(tally::FULL_POOL);
         }
-        if self.port.records() == FULL.records {
+        if self.port.slots() == FULL.records && self.port.records() == FULL.records {
             self.tally.meet(tally::FULL_STORE);
         }
         if there.2 == PEERS {

@@ -5,7 +5,11 @@ use oracle::driver::{Store, PEERS};
 use oracle::forms::{Id, Return, Settings, Tx, Verdict};
 
 pub const ENTRY_WORDS: usize = 14;
+/// Of a box record: all its words, those that stand together at the front of the area, of these the kind, and the kind of a vacated slot.
 pub const RECORD_WORDS: usize = 10;
+pub const SLOT_WORDS: usize = 8;
+const KIND: usize = 6;
+const GONE: u64 = 2;
 pub const CACHE_WORDS: usize = 5;
 pub const PEER_WORDS: usize = 2;
 pub const INPUT_WORDS: usize = 5;
@@ -574,9 +578,14 @@ impl Port {
         answer.chunks(ROW_WORDS).take(listed as usize).map(Row::of).collect()
     }
 
-    /// Box records in use.
-    pub fn records(&self) -> usize {
+    /// Slots of box records in use, vacated ones included.
+    pub fn slots(&self) -> usize {
         self.state[RECORDS] as usize
+    }
+
+    /// Box records in use: the slots that are not vacated.
+    pub fn records(&self) -> usize {
+        self.boxes.chunks(SLOT_WORDS).take(self.slots()).filter(|slot| slot[KIND] != GONE).count()
     }
 
     pub fn block_sum(&self) -> u64 {
