@@ -54,12 +54,12 @@ module _ (e b m : List ℕ) (c d : Counts) (needed : ℕ) (k : Made b m c d need
   made-room r =
       record {
         entries = rw (k .pooled) (r .entries);
-        boxes = boxes-still m m (d .records) (d .records + needed) (k .room) refl (omega arith);
-        free = rw (k .rows, room-still b m (k .kept)) (r .free);
+        boxes = boxes-still m m (d .records) (d .records + needed) (k .slots .room) refl (omega arith);
+        free = rw (k .slots .rows, room-still b m (k .slots .kept)) (r .free);
       }
 
   made-tables : tablesOf e m d ≡ tablesOf e b c
-  made-tables = λ i. record { entries = entriesOf e (k .pooled i); boxes = k .rows i }
+  made-tables = λ i. record { entries = entriesOf e (k .pooled i); boxes = k .slots .rows i }
 
   pub made-leaves : (visits capacity : ℕ) (x : Entry) (ins outs e' b' : List ℕ) (r : Admission) (a₀ a : List ℕ)
       → Leaves e' b' r a₀ a (contested visits capacity x ins outs (conflicts (index false (boxesOf m (d .records))) (idsOf 5 ins)) (tablesOf e m d))

@@ -356,7 +356,7 @@ fn find_place(
     )
 }
 
-// Room is made for the newcomer's records before it is told where others stand.
+// Room is made for the newcomer's records before the scan: once it has told where the lowest's records stand, none may be moved.
 fn place(
     entries: &mut [u64],
     boxes: &mut [u64],

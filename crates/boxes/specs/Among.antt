@@ -1,4 +1,4 @@
--- Whether a number stands in a list, and whether it is another.
+-- Whether a number stands in a list.
 use Prim.Native.Nat.{ℕ, _+_}
 use mathlib.Core.Path.{_≡_, refl, sym, ap}
 use mathlib.Core.Bool.{Bool, true, false, not, _||_}
@@ -7,7 +7,7 @@ use native.Mathlib.Nat.{zero-add}
 use native.Mathlib.Omega.{arith}
 use lib.Dec.{eqb}
 use borrow.Author.Tests.{eqb-true, eqb-false, eq-eqb, ne-eqb}
-use Rattle.words.specs.Lists.{pick, count, other}
+use Rattle.words.specs.Lists.{pick, count}
 
 abbrev pub among : ℕ → List ℕ → Bool
 among k l = not (eqb (count k l) 0)
@@ -25,11 +25,3 @@ eqb-comm a b = go (eqb b a) refl
     go : (t : Bool) → eqb b a ≡ t → eqb a b ≡ t
     go true e = eq-eqb a b (sym (eqb-true b a e))
     go false e = ne-eqb a b (λ q. eqb-false b a e (sym q))
-
--- a number that was read as x is k, or another
-module _ (k x y : ℕ) (e : x ≡ y) where
-  pub not-other : eqb x k ≡ true → other k y ≡ false
-  not-other t = rw (← e, t)
-
-  pub is-other : eqb x k ≡ false → other k y ≡ true
-  is-other t = rw (← e, t)

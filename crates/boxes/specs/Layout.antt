@@ -1,7 +1,6 @@
 -- The table of box records in words: the slots (`slotsOf`), what they read as (`rowsOf`), the records (`boxesOf`), how many there is room for
--- (`boxesRoom`, `BoxesOk`), and the laws of all. Words outside the first n slots are free, and so are vacated slots. Nothing unfolds a definition
--- of this file but `Stores`, which says what stores of words do, and the proofs of module `rows`, which reads and writes words, and of `write_behind`,
--- which lends the free part.
+-- (`boxesRoom`, `BoxesOk`), and the laws of all. Words outside the first n slots are free, and so are vacated slots. Nothing outside of
+-- this crate unfolds a definition of this file.
 use Prim.Native.Nat.{ℕ, _+_, _-_, _*_, _/_, _≤_, _<_}
 use mathlib.Core.Path.{_≡_, sym, ap, _∙_}
 use mathlib.Core.Bool.{Bool, true, false, not, _&&_}

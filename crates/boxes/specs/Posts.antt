@@ -10,13 +10,13 @@ use Rattle.boxes.specs.Slots.{solid, leave}
 use Rattle.boxes.specs.Clear.{Still}
 use Rattle.boxes.specs.Layout.{BoxesOk, slotAt, slotsOf, boxesOf}
 
--- transaction k has entered with n records, and r are used now
+-- transaction k has entered with n records, and r slots are used now
 pub record Entered (l m : List ℕ) (used n r k : ℕ) (ins outs : List ℕ) : Type 0 where
   pub kept : length m ≡ length l
   pub count : r ≡ used + n
   pub rows : boxesOf m r ≡ enterTx k ins outs (boxesOf l used)
 
--- the n records of transaction k stand behind the used ones, and r are used now
+-- the n records of transaction k stand behind the used slots, of which there are r now
 pub record Behind (l m : List ℕ) (used n r k : ℕ) (ins outs : List ℕ) : Type 0 where
   pub kept : length m ≡ length l
   pub count : r ≡ used + n

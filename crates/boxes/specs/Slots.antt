@@ -42,7 +42,7 @@ leave k s = pick (eqb (s .row .owner) k) (vacated s) s
 abbrev pub hideSlot : List ℕ → List ℕ → Slot → Slot
 hideSlot ins outs s = record { row = hideTx ins outs (s .row); gone = s .gone }
 
--- of slots 1, 2, 1 transaction 1 leaves, and 2 hides nothing that it made
+-- of three slots transaction 1 leaves the first and the last, and the one of 2 stays
 leave-edge : tidy (map (leave 1) (solid (record { box = 5; owner = 1; out = false; live = true }) ∷ solid (record { box = 6; owner = 2; out = true; live = true }) ∷ solid (record { box = 7; owner = 1; out = true; live = true }) ∷ []))
     ≡ record { box = 6; owner = 2; out = true; live = true } ∷ []
 leave-edge = refl

@@ -10,7 +10,7 @@ use lib.ListN.{length, getD, take, drop, set, length-take, length-drop, length-s
 use lib.Seq.{sets, length-sets, getD-set-same, getD-set-other, getD-take, getD-drop, getD-append-add}
 use lib.Dec.{eqb, ltb}
 use borrow.Rule.Slice.PartMut.{post-is}
-use borrow.Author.Tests.{ltb-true}
+use borrow.Author.Tests.{eqb-true, eqb-false, ltb-true}
 use Rattle.words.specs.Lists.{pick}
 use Rattle.words.specs.Rows.{tab-ext, tab-add, tab-set, stored, stored-sets, stored-append, sets-before, sets-after, blk-word, blk-stored}
 use Rattle.words.specs.Ids.{num, idOf}
@@ -35,7 +35,7 @@ slot-same : (f g : ℕ → ℕ) (d d' e e' : ℕ) → ((c : ℕ) → c < 8 → f
 slot-same f g d d' e e' h p q =
     λ t. slotOf (num (h 0 (omega arith) t) (h 1 (omega arith) t) (h 2 (omega arith) t) (p t)) (num (h 3 (omega arith) t) (h 4 (omega arith) t) (h 5 (omega arith) t) (q t)) (h 6 (omega arith) t) (h 7 (omega arith) t)
 
-pub same-slot : (l m : List ℕ) (i : ℕ) → length m ≡ length l → (i < boxesRoom l → (c : ℕ) → c < 8 → front m i c ≡ front l i c)
+same-slot : (l m : List ℕ) (i : ℕ) → length m ≡ length l → (i < boxesRoom l → (c : ℕ) → c < 8 → front m i c ≡ front l i c)
     → (i < boxesRoom l → (c : ℕ) → 0 < c → c ≤ 2 → getD m (length l - (i * 2 + c)) 0 ≡ getD l (length l - (i * 2 + c)) 0) → slotAt m i ≡ slotAt l i
 unfolding slotAt boxesRoom
 same-slot l m i e f b = rw e (go (ltb i (length l / 10)) refl)
@@ -64,44 +64,43 @@ module _ (l : List ℕ) (at c v : ℕ) (h : BoxesOk l (at + 1)) (b : c < 8) wher
       (getD-set-other l (at * 8 + c) (length l - (at * 2 + 2)) v 0 (λ q. absurd (omega (arith, q))))
       (getD-set-other l (at * 8 + c) (length l - (at * 2 + 1)) v 0 (λ q. absurd (omega (arith, q)))))
 
+-- .. its words: the one that is stored, and the others as they were
+stored-word : (l : List ℕ) (at c v : ℕ) → BoxesOk l (at + 1) → c < 8 → (d : ℕ) → front (set l (at * 8 + c) v) at d ≡ pick (eqb d c) v (front l at d)
+unfolding BoxesOk boxesRoom
+stored-word l at c v h b d = go (eqb d c) refl
+  where
+    go : (t : Bool) → eqb d c ≡ t → front (set l (at * 8 + c) v) at d ≡ pick t v (front l at d)
+    go true q = let e : d ≡ c = eqb-true d c q in rw e (getD-set-same l (at * 8 + c) v 0 (omega arith))
+    go false q = getD-set-other l (at * 8 + c) (at * 8 + d) v 0 (λ z. eqb-false d c q (omega (arith, z)))
+
+word-put : (l : List ℕ) (at c v : ℕ) → BoxesOk l (at + 1) → c < 8
+    → Put l (set l (at * 8 + c) v) at (slotBy (λ d. pick (eqb d c) v (front l at d)) (getD l (length l - (at * 2 + 2)) 0) (getD l (length l - (at * 2 + 1)) 0))
+word-put l at c v h b =
+    record {
+      here = set-here l at c v h b ∙ slot-same (front (set l (at * 8 + c) v) at) (λ d. pick (eqb d c) v (front l at d)) _ _ _ _ (λ d k. stored-word l at c v h b d) refl refl;
+      others = set-others l at c v h b;
+    }
+
 -- a slot is vacated by its kind, and hidden by its flag
 module _ (l : List ℕ) (at : ℕ) (h : BoxesOk l (at + 1)) where
-  abbrev apart : (c v d : ℕ) → (d ≡ c → ⊥) → front (set l (at * 8 + c) v) at d ≡ front l at d
-  apart c v d n = getD-set-other l (at * 8 + c) (at * 8 + d) v 0 (λ q. n (omega (arith, q)))
-
-  same-word : (c v : ℕ) → c < 8 → front (set l (at * 8 + c) v) at c ≡ v
-  unfolding BoxesOk boxesRoom
-  same-word c v b = getD-set-same l (at * 8 + c) v 0 (omega arith)
-
   pub vacate-put : Put l (set l (at * 8 + 6) 2) at (vacated (slotAt l at))
-  vacate-put =
-      record {
-        here =
-            set-here l at 6 2 h (omega arith)
-            ∙ (λ t. slotOf
-            (num (apart 6 2 0 (λ q. absurd (omega (arith, q))) t) (apart 6 2 1 (λ q. absurd (omega (arith, q))) t) (apart 6 2 2 (λ q. absurd (omega (arith, q))) t) (getD l (length l - (at * 2 + 2)) 0))
-            (num (apart 6 2 3 (λ q. absurd (omega (arith, q))) t) (apart 6 2 4 (λ q. absurd (omega (arith, q))) t) (apart 6 2 5 (λ q. absurd (omega (arith, q))) t) (getD l (length l - (at * 2 + 1)) 0))
-            (same-word 6 2 (omega arith) t)
-            (apart 6 2 7 (λ q. absurd (omega (arith, q))) t))
-            ∙ ap vacated (sym (here l at h));
-        others = set-others l at 6 2 h (omega arith);
-      }
+  vacate-put = subst (Put l (set l (at * 8 + 6) 2) at) (ap vacated (sym (here l at h))) (word-put l at 6 2 h (omega arith))
 
   pub hide-put : Put l (set l (at * 8 + 7) 0) at (record { row = hidden (boxAt l at); gone = slotAt l at .gone })
   unfolding boxAt
-  hide-put =
-      record {
-        here =
-            set-here l at 7 0 h (omega arith)
-            ∙ (λ t. slotOf
-            (num (apart 7 0 0 (λ q. absurd (omega (arith, q))) t) (apart 7 0 1 (λ q. absurd (omega (arith, q))) t) (apart 7 0 2 (λ q. absurd (omega (arith, q))) t) (getD l (length l - (at * 2 + 2)) 0))
-            (num (apart 7 0 3 (λ q. absurd (omega (arith, q))) t) (apart 7 0 4 (λ q. absurd (omega (arith, q))) t) (apart 7 0 5 (λ q. absurd (omega (arith, q))) t) (getD l (length l - (at * 2 + 1)) 0))
-            (apart 7 0 6 (λ q. absurd (omega (arith, q))) t)
-            (same-word 7 0 (omega arith) t))
-            ∙ (λ t. record { row = record { box = num (front l at 0) (front l at 1) (front l at 2) (getD l (length l - (at * 2 + 2)) 0); owner = num (front l at 3) (front l at 4) (front l at 5) (getD l (length l - (at * 2 + 1)) 0); out = isSet (front l at 6); live = and-false (not (eqb (front l at 6) 2)) t }; gone = eqb (front l at 6) 2 })
-            ∙ ap (λ (s : Slot). record { row = hidden (s .row); gone = s .gone }) (sym (here l at h));
-        others = set-others l at 7 0 h (omega arith);
-      }
+  hide-put = subst (Put l (set l (at * 8 + 7) 0) at) (unlit ∙ ap (λ (s : Slot). record { row = hidden (s .row); gone = s .gone }) (sym (here l at h))) (word-put l at 7 0 h (omega arith))
+    where
+      f : ℕ → ℕ
+      f = front l at
+
+      d : ℕ
+      d = getD l (length l - (at * 2 + 2)) 0
+
+      e : ℕ
+      e = getD l (length l - (at * 2 + 1)) 0
+
+      unlit : slotOf (num (f 0) (f 1) (f 2) d) (num (f 3) (f 4) (f 5) e) (f 6) 0 ≡ record { row = hidden (slotBy f d e .row); gone = slotBy f d e .gone }
+      unlit = λ t. record { row = record { box = num (f 0) (f 1) (f 2) d; owner = num (f 3) (f 4) (f 5) e; out = isSet (f 6); live = and-false (not (eqb (f 6) 2)) t }; gone = eqb (f 6) 2 }
 
 -- ten words
 module _ (l ws : List ℕ) (at d e : ℕ) (len : length ws ≡ 8) (h : BoxesOk l (at + 1)) where
@@ -132,7 +131,7 @@ module _ (l ws : List ℕ) (at d e : ℕ) (len : length ws ≡ 8) (h : BoxesOk l
       ∙ sym (blk-word 8 (sets l (at * 8) ws) at c b)
       ∙ ap (λ (m : List ℕ). getD m c 0) (blk-stored 8 l ws at len (omega arith))
 
-  pub written-put : Put l written at (slotBy (λ c. getD ws c 0) d e)
+  written-put : Put l written at (slotBy (λ c. getD ws c 0) d e)
   unfolding BoxesOk boxesRoom
   written-put =
       record {

@@ -235,9 +235,9 @@ fn hide_older(
     hide_marked(s, used, &marks, inputs, in_width, outputs, out_width);
 }
 
-// Writes box `i` of a list at index `at` of the free tail. Of a box that the list repeats only the last record is live.
+// Writes box `i` of a list at index `at` of the free part. Of a box that the list repeats only the last record is live.
 fn write_record(
-    tail: &mut [u64],
+    free: &mut [u64],
     at: usize,
     owner: Id,
     out: bool,
@@ -245,14 +245,14 @@ fn write_record(
     width: usize,
     i: usize,
 )
-    requires { ⌜ BoxesOk (now tail) (at + 1) ⌝ }
+    requires { ⌜ BoxesOk (now free) (at + 1) ⌝ }
     requires { ⌜ (4 ≤ width) × (i < countOf width (now list)) ⌝ }
-    ensures { λ _. ⌜ ((m : ℕ) → slotsOf (now (tail .exit)) m ≡ set (slotsOf (now (tail .entry)) m) at (solid (newBox out (idOf owner) (idAt (now (list .entry)) (i * width)) (drop (i + 1) (idsOf width (now (list .entry))))))) ⌝ }
+    ensures { λ _. ⌜ ((m : ℕ) → slotsOf (now (free .exit)) m ≡ set (slotsOf (now (free .entry)) m) at (solid (newBox out (idOf owner) (idAt (now (list .entry)) (i * width)) (drop (i + 1) (idsOf width (now (list .entry))))))) ⌝ }
 {
     let key = id_at(list, width, i);
     let again = among(list, width, i + 1, count_of(list, width), key);
     store_box(
-        tail,
+        free,
         at,
         BoxRow {
             key,
@@ -263,46 +263,46 @@ fn write_record(
     );
 }
 
-// Writes the boxes of a list from index `at` of the free tail on, and returns the index behind them.
+// Writes the boxes of a list from index `at` of the free part on, and returns the index behind them.
 fn write_list(
-    tail: &mut [u64],
+    free: &mut [u64],
     at: usize,
     owner: Id,
     out: bool,
     list: &[u64],
     width: usize,
 ) -> usize
-    requires { ⌜ BoxesOk (now tail) (at + countOf width (now list)) ⌝ }
+    requires { ⌜ BoxesOk (now free) (at + countOf width (now list)) ⌝ }
     requires { ⌜ 4 ≤ width ⌝ }
-    ensures { λ r. ⌜ Written (now (tail .entry)) (now (tail .exit)) at (countOf width (now (list .entry))) r out (idOf owner) (idsOf width (now (list .entry))) ⌝ }
+    ensures { λ r. ⌜ Written (now (free .entry)) (now (free .exit)) at (countOf width (now (list .entry))) r out (idOf owner) (idsOf width (now (list .entry))) ⌝ }
 {
     let n = count_of(list, width);
     let mut i = 0;
     while i < n {
-        write_record(tail, at + i, owner, out, list, width, i);
+        write_record(free, at + i, owner, out, list, width, i);
         i += 1;
     }
     at + n
 }
 
-// Writes a newcomer's records into the free tail, its inputs and then its outputs, and returns how many they are.
+// Writes a newcomer's records into the free part, its inputs and then its outputs, and returns how many they are.
 fn write_records(
-    tail: &mut [u64],
+    free: &mut [u64],
     owner: Id,
     inputs: &[u64],
     in_width: usize,
     outputs: &[u64],
     out_width: usize,
 ) -> usize
-    requires { ⌜ BoxesOk (now tail) (countOf «in_width» (now inputs) + countOf «out_width» (now outputs)) ⌝ }
+    requires { ⌜ BoxesOk (now free) (countOf «in_width» (now inputs) + countOf «out_width» (now outputs)) ⌝ }
     requires { ⌜ (4 ≤ «in_width») × (4 ≤ «out_width») ⌝ }
-    ensures { λ r. ⌜ (r ≡ countOf «in_width» (now (inputs .entry)) + countOf «out_width» (now (outputs .entry))) × (slotsOf (now (tail .exit)) r ≡ map solid (newBoxes false (idOf owner) (idsOf «in_width» (now (inputs .entry))) ++ newBoxes true (idOf owner) (idsOf «out_width» (now (outputs .entry))))) ⌝ }
+    ensures { λ r. ⌜ (r ≡ countOf «in_width» (now (inputs .entry)) + countOf «out_width» (now (outputs .entry))) × (slotsOf (now (free .exit)) r ≡ map solid (newBoxes false (idOf owner) (idsOf «in_width» (now (inputs .entry))) ++ newBoxes true (idOf owner) (idsOf «out_width» (now (outputs .entry))))) ⌝ }
 {
-    let at = write_list(tail, 0, owner, false, inputs, in_width);
-    write_list(tail, at, owner, true, outputs, out_width)
+    let at = write_list(free, 0, owner, false, inputs, in_width);
+    write_list(free, at, owner, true, outputs, out_width)
 }
 
-// A newcomer's records stand behind the used ones: the part of the area that is free is lent to their writer. Returns how many records are used then.
+// A newcomer's records stand behind the used ones: the part of the area that is free is lent to their writer. Returns how many slots are used then.
 pub fn write_behind(
     s: &mut [u64],
     used: usize,
@@ -329,7 +329,7 @@ pub fn write_behind(
         )
 }
 
-// A transaction's records enter: older ones of its boxes are hidden, and the new ones stand behind them. Returns how many records are used
+// A transaction's records enter: older ones of its boxes are hidden, and the new ones stand behind them. Returns how many slots are used
 // then.
 pub fn enter_tx(
     s: &mut [u64],

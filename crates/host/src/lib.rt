@@ -44,7 +44,7 @@
 //
 //     state, 25 words                                   a submission, 11 words
 //      0 capacity               9 pooled                 0 time
-//      1 min_fee               10 records                1 to 4 id
+//      1 min_fee               10 box slots              1 to 4 id
 //      2 strategy: 0 by byte   11 cached                 5 size
 //      3 cleanup_interval      12 interblock_cost        6 preheader (low 32 bits)
 //      4 rebroadcast_count     13 peers in use           7 source: 0 local, else a peer

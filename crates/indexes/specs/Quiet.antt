@@ -172,7 +172,7 @@ upto P r j h f g = go (decLt j r)
     go (yes q) = f q
     go (no q) = let e : r ≡ j = omega (arith, q) in subst P e g
 
--- an owner that is not marked is neither of two
+-- one that is not in a list of one is another
 not-one : (b x : ℕ) → among b (x ∷ []) ≡ false → eqb b x ≡ false
 not-one b x h = eqb-comm b x ∙ go (eqb x b) (sym (among-cons b x []) ∙ h)
   where

@@ -1,5 +1,6 @@
-// Whether a newcomer stands alone, told in one scan: no record is of one of its boxes, none is its own, and it does not spend what it makes.
-// Then it has no conflict and no parent, and no older record is hidden for it. Most newcomers stand alone.
+// Whether a newcomer stands alone, told in one scan: no slot is of one of its boxes, none is its own, and it does not spend what it makes.
+// Then it has no conflict and no parent, and no older record is hidden for it. Most newcomers stand alone; of one that does not, or that a
+// vacated slot reads like, nothing is said.
 use boxes::lists::count_of;
 use boxes::lists::has;
 use boxes::lists::id_at;

@@ -20,7 +20,7 @@ use Rattle.entries.specs.Layout.{ok-room as room-entries, room-ok as entries-ro
 use Rattle.boxes.specs.Layout.{boxesOf, boxesRoom, boxes-few}
 use Rattle.boxes.specs.Layout.{room-ok as room-boxes, ok-room as boxes-room}
 use Rattle.boxes.specs.Flat.{idsTo, ids}
-use Rattle.pool.specs.Pool.{Tables, tablesOf, PoolFits, fitsTest, Room, noRoom, removeTx, removeAll, lowest, dropLow, trim, trimmed, evict, evicted}
+use Rattle.pool.specs.Pool.{Tables, tablesOf, PoolFits, fitsTest, Room, Left, noRoom, removeTx, removeAll, lowest, dropLow, trim, trimmed, evict, evicted}
 
 -- ---- counts and room
 
@@ -71,6 +71,10 @@ module _ (e b : List ℕ) (c : Counts) where
         let h' : length (entriesOf e (c .pooled)) < entriesRoom e = omega (arith, entries .len e (c .pooled)) in
         let k' : length (boxesOf b (c .records)) + needed ≤ boxesRoom b = omega (arith, boxes-few b (c .records)) in
         rw (lt-leb _ _ h', le-ltb _ _ k')
+
+-- what holds of the number of used slots, which no rule fixes: each record has one, and the words have room for them
+pub slots-used : (e b : List ℕ) (c : Counts) (t : Tables) → Left e b c t → (length (t .boxes) ≤ c .records) × (c .records ≤ boxesRoom b)
+slots-used e b c t l = (omega (arith, boxes-few b (c .records), ap (λ (x : Tables). length (x .boxes)) (l .tables)), boxes-room b (c .records) (l .fits .boxes))
 
 -- ---- a removal: whether one was there shows in how many are left
 

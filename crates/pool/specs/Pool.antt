@@ -13,6 +13,7 @@ use Rattle.entries.specs.Layout.{entriesOf, entriesRoom, EntriesOk}
 use Rattle.entries.specs.declared.fields.ValidationCost.the-variants.{Unmeasured}
 use Rattle.boxes.specs.Records.{BoxRec, enterTx, dropOwner}
 use Rattle.boxes.specs.Layout.{boxesOf, boxesRoom, BoxesOk}
+use Rattle.boxes.specs.Posts.{Roomy}
 
 pub record Tables : Type 0 where
   pub entries : List Entry
@@ -40,10 +41,8 @@ pub record Room (e b : List ℕ) (c : Counts) (needed : ℕ) : Type 0 where
 
 -- .. which stand free behind the used slots: the records are what they were
 pub record Made (b m : List ℕ) (c d : Counts) (needed : ℕ) : Type 0 where
-  pub kept : length m ≡ length b
   pub pooled : d .pooled ≡ c .pooled
-  pub room : BoxesOk m (d .records + needed)
-  pub rows : boxesOf m (d .records) ≡ boxesOf b (c .records)
+  pub slots : Roomy b m (c .records) (d .records) needed
 
 -- what a call leaves: words and counts that fit, and these tables in them
 pub record Left (e b : List ℕ) (c : Counts) (t : Tables) : Type 0 where

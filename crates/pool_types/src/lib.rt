@@ -20,7 +20,7 @@ pub struct MempoolConfig {
     pub cost_per_peer_per_block: u64,
 }
 
-// How much of the lent tables is in use. Only crate `pool` opens it.
+// How much of the lent tables is in use: entries, and slots of box records, vacated ones included. Only crate `pool` changes it.
 pub struct Counts {
     pub pooled: usize,
     pub records: usize,

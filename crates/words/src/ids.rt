@@ -54,7 +54,7 @@ pub fn put_id(s: &mut [u64], at: usize, x: Id)
     put_four(s, at, x.a, x.b, x.c, x.d);
 }
 
-// From the last word on: ids differ there most, and tables keep it where it is read first.
+// From the last word on: ids differ there most, and the compiled test then reads it alone where it differs, which the box records keep apart.
 pub fn same_id(x: Id, y: Id) -> bool
     ensures { λ r. ⌜ r ≡ eqb (idOf x) (idOf y) ⌝ }
 {

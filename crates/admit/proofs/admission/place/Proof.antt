@@ -20,7 +20,7 @@ make-room-requires c κs = (c .before .before .before .before .before .before .b
 find-place-requires : tie.Need-find-place-requires
 find-place-requires c κs =
     let k = rw (c .before .before .before .before .before .before .before .before .count-records .ensures, c .before .before .before .before .before .before .before .count-records2 .ensures) at (c .before .before .before .before .before .make-room .ensures) in
-    (made-room _ _ _ _ _ _ k (c .before .before .before .before .before .before .before .before .before .before .before .before .before .before .pre .0), (c .before .before .before .before .before .before .before .before .before .before .before .before .before .before .pre .1, k .room))
+    (made-room _ _ _ _ _ _ k (c .before .before .before .before .before .before .before .before .before .before .before .before .before .before .pre .0), (c .before .before .before .before .before .before .before .before .before .before .before .before .before .before .pre .1, k .slots .room))
 
 same-length : tie.Need-same-length
 same-length c = omega arith

@@ -13,10 +13,10 @@ use Rattle.boxes.proofs.records.write_list.Statement.{statement}
 use Rattle.boxes.proofs.records.write_list.Tie as tie
 
 abbrev Inv-loop : tie.InvT-loop
-Inv-loop tail₀ at owner out list width n i₀ tail i = (i ≤ n) × (length tail ≡ length tail₀) × (whole out (idOf owner) width list tail at i ≡ slotsOf tail₀ at ++ news out (idOf owner) (idsOf width list))
+Inv-loop free₀ at owner out list width n i₀ free i = (i ≤ n) × (length free ≡ length free₀) × (whole out (idOf owner) width list free at i ≡ slotsOf free₀ at ++ news out (idOf owner) (idsOf width list))
 
 abbrev μ-loop : tie.MeasureT-loop
-μ-loop tail₀ at owner out list width n i₀ tail i = n - i
+μ-loop free₀ at owner out list width n i₀ free i = n - i
 
 count-of-requires : tie.Need-count-of-requires Inv-loop μ-loop
 count-of-requires c κs = c .before .before .pre .1

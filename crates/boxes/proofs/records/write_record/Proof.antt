@@ -33,7 +33,7 @@ returns : tie.Need-returns
 returns c =
     let a = c .before .before .before .before .before .before .before .before .before .args in
     let e = new-row _ (a .owner) (a .out) _ _ _ (a .i) (c .before .before .before .before .before .before .id-at .ensures) (c .before .before .before .before .before .count-of .ensures) (c .before .before .before .before .among .ensures) in
-    λ m. put-all _ _ _ _ (c .before .before .store-box .ensures) m ∙ ap (λ (r : BoxRec). set (slotsOf (a .tail .now) m) (a .at) (solid r)) e
+    λ m. put-all _ _ _ _ (c .before .before .store-box .ensures) m ∙ ap (λ (r : BoxRec). set (slotsOf (a .free .now) m) (a .at) (solid r)) e
 
 pub write-record-spec : {M : Type 1} → statement M
 write-record-spec = tie.close (tie.spec id-at-requires add-among count-of-requires among-requires store-box-requires same-length returns)
