@@ -1,2 +1,3 @@
 pub mod World
 pub mod Fits
+pub mod Spares

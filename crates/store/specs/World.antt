@@ -5,7 +5,7 @@ use Rattle.pool_types.specs.declared.Mempool.{Mempool}
 use Rattle.pool_types.specs.Outcomes.{Outcome}
 use Rattle.expiring_cache.specs.Cache.{Held}
 use Rattle.expiring_cache.specs.Layout.{cacheOf}
-use Rattle.peers.specs.Flat.{flatPeers}
+use Rattle.peers.specs.Peers.{peersOf}
 use Rattle.peers.specs.declared.PeerRecord.{PeerRecord}
 use Rattle.pool.specs.Pool.{Tables, tablesOf}
 
@@ -20,9 +20,9 @@ pub record World : Type 0 where
 abbrev pub world : Tables → List Held → ℕ → List PeerRecord → World
 world t k s p = record { tables = t; cache = k; sum = s; peers = p }
 
--- the store that words and state hold
-abbrev pub worldOf : List ℕ → List ℕ → List ℕ → List ℕ → Mempool → World
-worldOf e b k p st = world (tablesOf e b (st .counts)) (cacheOf k (st .cached)) (st .sums .«interblock_cost») (flatPeers p (st .sums .peers))
+-- the store that words, peer records and state hold
+abbrev pub worldOf : List ℕ → List ℕ → List ℕ → List PeerRecord → Mempool → World
+worldOf e b k p st = world (tablesOf e b (st .counts)) (cacheOf k (st .cached)) (st .sums .«interblock_cost») (peersOf p (st .sums .peers))
 
 -- what a call answers, leaves, and writes into its answer buffer, from the first place on
 pub record Result : Type 0 where

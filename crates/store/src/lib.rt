@@ -1,34 +1,18 @@
-// The lent store as every changing call finds it: whether the counts of the state fit the words that are lent. That is all that safety needs,
-// since no word of a table is used as an index.
+// The lent store as every changing call finds it: whether the counts of the state fit what is lent. That is all that safety needs, since no word of
+// a table is used as an index.
 use expiring_cache::cache_room;
 use pool::fits;
 use pool_types::Mempool;
 ghost use mathlib.Core.Path.{_≡_};
-ghost use Prim.Native.Nat.{max};
 ghost use Rattle.words.specs.Lists.{pick};
-ghost use Rattle.store.specs.Fits.{allFit};
+ghost use Rattle.store.specs.Fits.{cacheFits, allFit};
 
-// How many words 256 peer records take, and how many records there are.
-const PEER_WORDS: usize = 512;
-
+// How many peers can have a record.
 const PEER_RECORDS: usize = 256;
 
-// A cache holds at least one id.
-fn at_least_one(capacity: usize) -> usize
-    ensures { λ r. ⌜ r ≡ max capacity 1 ⌝ }
-{
-    if capacity == 0 { 1 } else { capacity }
-}
-
-// Whether the counts fit the words that are lent.
-pub fn fits_all(
-    entries: &[u64],
-    boxes: &[u64],
-    cache: &[u64],
-    peers: &[u64],
-    mempool: Mempool,
-) -> bool
-    ensures { λ r. ⌜ r ≡ allFit (now (entries .entry)) (now (boxes .entry)) (now (cache .entry)) (now (peers .entry)) mempool ⌝ }
+// Whether the counts of pool and cache fit the words that are lent, and the cache has room for its capacity, at least one id.
+pub fn fits_cache(entries: &[u64], boxes: &[u64], cache: &[u64], mempool: Mempool) -> bool
+    ensures { λ r. ⌜ r ≡ cacheFits (now (entries .entry)) (now (boxes .entry)) (now (cache .entry)) mempool ⌝ }
 {
     let counts = mempool.counts;
     if !fits(entries, boxes, counts) {
@@ -38,10 +22,26 @@ pub fn fits_all(
     if room < mempool.cached {
         return false;
     }
-    if room < at_least_one(mempool.config.invalidation_capacity) {
+    if room == 0 {
         return false;
     }
-    if peers.len() < PEER_WORDS {
+    mempool.config.invalidation_capacity <= room
+}
+
+// Whether all counts fit, where so many peer records are lent.
+pub fn fits_all(
+    entries: &[u64],
+    boxes: &[u64],
+    cache: &[u64],
+    records: usize,
+    mempool: Mempool,
+) -> bool
+    ensures { λ r. ⌜ r ≡ allFit (now (entries .entry)) (now (boxes .entry)) (now (cache .entry)) records mempool ⌝ }
+{
+    if !fits_cache(entries, boxes, cache, mempool) {
+        return false;
+    }
+    if records < PEER_RECORDS {
         return false;
     }
     mempool.sums.peers <= PEER_RECORDS
