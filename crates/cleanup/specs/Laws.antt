@@ -19,8 +19,9 @@ use Rattle.pool_types.specs.declared.NextOutcome.the-variants.{Candidate, Ended
 use Rattle.pool_types.specs.declared.AnswerOutcome.the-variants.{InputMissing, AnswerNeeded, FoundInvalid, FoundValid, NotAnswered}
 use Rattle.pool_types.specs.declared.Verdict.{Verdict}
 use Rattle.pool_types.specs.declared.Verdict.the-variants.{Valid, Invalid, Absent}
-use Rattle.pool_types.specs.Outcomes.{Outcome, refused, candidate, openedOf, nextOf, answeredOf}
+use Rattle.pool_types.specs.Outcomes.{Outcome, candidate, ended, openedOf, nextOf, answeredOf}
 use Rattle.expiring_cache.specs.Layout.{room-still}
+use Rattle.peers.specs.declared.PeerRecord.{PeerRecord}
 use Rattle.entries.specs.Entries.{Entry, placeOf, stamped}
 use Rattle.entries.specs.Layout.{entryAt, entriesOf, entriesRoom, entries, room-ok}
 use Rattle.entries.specs.Layout.{Left as LeftEntries}
@@ -34,9 +35,10 @@ use Rattle.indexes.specs.Resolved.{allResolved, flagged}
 use Rattle.pool.specs.Pool.{Tables, tablesOf, PoolFits, Left, removeTx}
 use Rattle.store.specs.World.{World, world, worldOf}
 use Rattle.store.specs.Fits.{Fits}
+use Rattle.store.specs.Spares.{Lent, Spares}
 use Rattle.returns.specs.Post.{recounted, Cached}
 use Rattle.cleanup.specs.Passes.{PassNow, passOf, PassResult, still, opened, nexted, sought, offered, firstDue, measured, previousCost, answeredWith, answerRefusal, lacksInput, weighed, answered}
-use Rattle.cleanup.specs.Post.{PassPost, repassed, PassOnly, Untouched, noneOut, answerCode, Stepped}
+use Rattle.cleanup.specs.Post.{PassPost, repassed, PassOnly, noneOut, answerCode, Stepped}
 use Rattle.cleanup.specs.Numbers.{ofAnswer}
 use Rattle.cleanup.specs.Search.{idsAt, Sought}
 
@@ -47,32 +49,29 @@ no-id = simp join-is
 
 -- ---- what is left, as a result has it
 
-pub post-as : {st r : Mempool} {o : Outcome} {e b k p : List ℕ} {s t : PassResult} → s ≡ t → PassPost st r o e b k p t → PassPost st r o e b k p s
+post-as : {st r : Mempool} {o : Outcome} {e b k : List ℕ} {ys : List PeerRecord} {s t : PassResult} → s ≡ t → PassPost st r o e b k ys t → PassPost st r o e b k ys s
 post-as q h = rw q h
 
-pub post-with : {st r m : Mempool} {o : Outcome} {e b k p : List ℕ} {s : PassResult} → r ≡ m → PassPost st m o e b k p s → PassPost st r o e b k p s
-post-with {st} {r} {m} {o} {e} {b} {k} {p} {s} q h = subst (λ (x : Mempool). PassPost st x o e b k p s) (sym q) h
+post-with : {st r m : Mempool} {o : Outcome} {e b k : List ℕ} {ys : List PeerRecord} {s : PassResult} → r ≡ m → PassPost st m o e b k ys s → PassPost st r o e b k ys s
+post-with {st} {r} {m} {o} {e} {b} {k} {ys} {s} q h = subst (λ (x : Mempool). PassPost st x o e b k ys s) (sym q) h
 
 only-as : {st r : Mempool} {o : Outcome} {s t : PassResult} → s ≡ t → PassOnly st r o t → PassOnly st r o s
 only-as q h = rw q h
 
 -- nothing changed
-pub post-still : (e b k p : List ℕ) (st : Mempool) (o n : Outcome) → Fits e b k p st → o ≡ n → PassPost st st o e b k p (still n (worldOf e b k p st) (passOf (st .pass)))
-post-still e b k p st o n f q = record { fits = f; config = refl; outcome = q; world = refl; pass = refl }
+post-still : (e b k : List ℕ) (ys : List PeerRecord) (st : Mempool) (o n : Outcome) → Fits e b k ys st → o ≡ n → PassPost st st o e b k ys (still n (worldOf e b k ys st) (passOf (st .pass)))
+post-still e b k ys st o n f q = record { fits = f; config = refl; outcome = q; world = refl; pass = refl }
 
 -- the pass alone is new
-pub only-post : {st r : Mempool} {o : Outcome} {s : PassResult} (e b k p : List ℕ) → Fits e b k p st → s .world ≡ worldOf e b k p st → PassOnly st r o s → PassPost st r o e b k p s
-only-post {st} {r} {o} {s} e b k p f w h =
+only-post : {st r : Mempool} {o : Outcome} {s : PassResult} (e b k : List ℕ) (ys : List PeerRecord) → Fits e b k ys st → s .world ≡ worldOf e b k ys st → PassOnly st r o s → PassPost st r o e b k ys s
+only-post {st} {r} {o} {s} e b k ys f w h =
     record {
-      fits = subst (λ (x : Mempool). Fits e b k p x) (sym (h .state)) (record { tests = record { pool = f .tests .pool; cache = f .tests .cache }; keeps = f .keeps; words = f .words; used = f .used });
+      fits = subst (λ (x : Mempool). Fits e b k ys x) (sym (h .state)) (record { tests = record { pool = f .tests .pool; cache = f .tests .cache }; keeps = f .keeps; records = f .records; used = f .used });
       config = ap (λ (x : Mempool). x .config) (h .state);
       outcome = h .outcome;
-      world = ap (worldOf e b k p) (h .state) ∙ sym w;
+      world = ap (worldOf e b k ys) (h .state) ∙ sym w;
       pass = h .pass;
     }
-
-pub untouched : (st : Mempool) (o : Outcome) (t : Bool) (l : List (List ℕ)) → o ≡ refused (pick t 21 1) 0 → Untouched st st o t l l
-untouched st o t l q = record { state = refl; outcome = q; words = refl }
 
 -- ---- open
 
@@ -92,9 +91,9 @@ module _ (st : Mempool) (time limit preheader : ℕ) where
 
   -- whatever it answers, the store stays
   pub open-post : {r : Mempool} {o : Outcome} → ((w : World) → PassOnly st r o (opened w (passOf (st .pass)) time limit preheader))
-      → (e b k p : List ℕ) → Fits e b k p st → PassPost st r o e b k p (opened (worldOf e b k p st) (passOf (st .pass)) time limit preheader)
+      → (e b k : List ℕ) (ys : List PeerRecord) → Fits e b k ys st → PassPost st r o e b k ys (opened (worldOf e b k ys st) (passOf (st .pass)) time limit preheader)
   unfolding opened
-  open-post h e b k p f = only-post e b k p f (pick-world (st .pass .open) _ _ _ refl refl) (h (worldOf e b k p st))
+  open-post h e b k ys f = only-post e b k ys f (pick-world (st .pass .open) _ _ _ refl refl) (h (worldOf e b k ys st))
 
 -- ---- next
 
@@ -104,6 +103,27 @@ nothing = world (record { entries = []; boxes = [] }) [] 0 []
 
 pub only-state : {st r : Mempool} {o : Outcome} {s : World → PassResult} → ((w : World) → PassOnly st r o (s w)) → r ≡ repassed st (r .pass)
 only-state h = h nothing .state
+
+-- what two constructors give
+pub never : {A : Type 0} → _≡_ {A = ℕ} 0 1 → A
+never z = absurd (omega arith)
+
+-- a candidate is no refusal, nor is the end
+module _ {o : Outcome} (m n : Lent) where
+  spares-candidate : {k : ℕ} → o ≡ candidate k → Spares o m n
+  spares-candidate e = record { asked = λ q. never cc; refusal = λ j i q. never cc }
+
+  spares-ended : {k : ℕ} → o ≡ ended k → Spares o m n
+  spares-ended e = record { asked = λ q. never cc; refusal = λ j i q. never cc }
+
+module _ {st r : Mempool} {o : Outcome} (m n : Lent) where
+  pub spares-offered : (x : ℕ) → ((w : World) → PassOnly st r o (offered (x ∷ []) w (passOf (st .pass)))) → Spares o m n
+  unfolding offered
+  spares-offered x g = spares-candidate m n (g nothing .outcome)
+
+  pub spares-closed : ((w : World) → PassOnly st r o (offered [] w (passOf (st .pass)))) → Spares o m n
+  unfolding offered
+  spares-closed g = spares-ended m n (g nothing .outcome)
 
 -- a count that fits
 pub next-fits : {A : Type 0} {m : ℕ} (n x : ℕ) → x ≡ m → n ≤ x → leb n m ≡ false → A
@@ -122,44 +142,44 @@ module _ (st : Mempool) where
   end-done x z w = record { state = refl; outcome = refl; pass = rw z }
 
   -- none is open
-  pub next-closed : not (st .pass .open) ≡ true → (e b k p : List ℕ) → Fits e b k p st
-      → PassPost st st (nextOf (NoPass 21)) e b k p (nexted (st .config) (worldOf e b k p st) (passOf (st .pass)))
+  pub next-closed : not (st .pass .open) ≡ true → (e b k : List ℕ) (ys : List PeerRecord) → Fits e b k ys st
+      → PassPost st st (nextOf (NoPass 21)) e b k ys (nexted (st .config) (worldOf e b k ys st) (passOf (st .pass)))
   unfolding nexted nextOf
-  next-closed h e b k p f = post-as (yes _ _ _ h) (post-still e b k p st _ _ f refl)
+  next-closed h e b k ys f = post-as (yes _ _ _ h) (post-still e b k ys st _ _ f refl)
 
   -- the count does not fit
-  pub next-unfit : {A : Type 0} (e b k p : List ℕ) → entriesRoom e < st .counts .pooled → Fits e b k p st → A
-  next-unfit e b k p h f = absurd (omega (arith, room-ok e (st .counts .pooled) (f .tests .pool .entries)))
+  pub next-unfit : {A : Type 0} (e b k : List ℕ) (ys : List PeerRecord) → entriesRoom e < st .counts .pooled → Fits e b k ys st → A
+  next-unfit e b k ys h f = absurd (omega (arith, room-ok e (st .counts .pooled) (f .tests .pool .entries)))
 
   -- a candidate is out
-  pub next-again : not (st .pass .open) ≡ false → st .pass .out ≡ true → (e b k p : List ℕ) → Fits e b k p st → {o : Outcome} → o ≡ candidate (idOf (st .pass .candidate))
-      → PassPost st st o e b k p (nexted (st .config) (worldOf e b k p st) (passOf (st .pass)))
+  pub next-again : not (st .pass .open) ≡ false → st .pass .out ≡ true → (e b k : List ℕ) (ys : List PeerRecord) → Fits e b k ys st → {o : Outcome} → o ≡ candidate (idOf (st .pass .candidate))
+      → PassPost st st o e b k ys (nexted (st .config) (worldOf e b k ys st) (passOf (st .pass)))
   unfolding nexted
-  next-again h i e b k p f q = post-as (no _ _ _ h ∙ yes _ _ _ i) (post-still e b k p st _ _ f q)
+  next-again h i e b k ys f q = post-as (no _ _ _ h ∙ yes _ _ _ i) (post-still e b k ys st _ _ f q)
 
   -- none is: the search decides
   module _ (e : List ℕ) (h : not (st .pass .open) ≡ false) (i : st .pass .out ≡ false) {r : Place} (s : Sought e (st .counts .pooled) (st .config .«cleanup_interval») (passOf (st .pass)) r) where
-    searched : (b k p ids : List ℕ) → idsAt e r ≡ ids → nexted (st .config) (worldOf e b k p st) (passOf (st .pass)) ≡ offered ids (worldOf e b k p st) (passOf (st .pass))
+    searched : (b k : List ℕ) (ys : List PeerRecord) (ids : List ℕ) → idsAt e r ≡ ids → nexted (st .config) (worldOf e b k ys st) (passOf (st .pass)) ≡ offered ids (worldOf e b k ys st) (passOf (st .pass))
     unfolding nexted sought
-    searched b k p ids q =
+    searched b k ys ids q =
         no _ _ _ h ∙ no _ _ _ i
         ∙ either (leb (st .pass .limit) (st .pass .spent)) (firstDue (st .config .«cleanup_interval») (passOf (st .pass)) (entriesOf e (st .counts .pooled)))
-        ∙ ap (λ ks. offered ks (worldOf e b k p st) (passOf (st .pass))) (sym (s .ids) ∙ q)
+        ∙ ap (λ ks. offered ks (worldOf e b k ys st) (passOf (st .pass))) (sym (s .ids) ∙ q)
       where
         either : (t : Bool) (ks : List ℕ)
-            → pick t (offered [] (worldOf e b k p st) (passOf (st .pass))) (offered ks (worldOf e b k p st) (passOf (st .pass))) ≡ offered (pick t [] ks) (worldOf e b k p st) (passOf (st .pass))
+            → pick t (offered [] (worldOf e b k ys st) (passOf (st .pass))) (offered ks (worldOf e b k ys st) (passOf (st .pass))) ≡ offered (pick t [] ks) (worldOf e b k ys st) (passOf (st .pass))
         either true ks = refl
         either false ks = refl
 
     pub next-found : (j x : ℕ) → r ≡ At j → x ≡ entryAt e j .id → {m : Mempool} {o : Outcome} → ((w : World) → PassOnly st m o (offered (x ∷ []) w (passOf (st .pass))))
-        → (b k p : List ℕ) → Fits e b k p st → PassPost st m o e b k p (nexted (st .config) (worldOf e b k p st) (passOf (st .pass)))
+        → (b k : List ℕ) (ys : List PeerRecord) → Fits e b k ys st → PassPost st m o e b k ys (nexted (st .config) (worldOf e b k ys st) (passOf (st .pass)))
     unfolding offered
-    next-found j x q y g b k p f = post-as (searched b k p (x ∷ []) (rw (q, y))) (only-post e b k p f refl (g (worldOf e b k p st)))
+    next-found j x q y g b k ys f = post-as (searched b k ys (x ∷ []) (rw (q, y))) (only-post e b k ys f refl (g (worldOf e b k ys st)))
 
     pub next-ended : r ≡ Nowhere → {m : Mempool} {o : Outcome} → ((w : World) → PassOnly st m o (offered [] w (passOf (st .pass))))
-        → (b k p : List ℕ) → Fits e b k p st → PassPost st m o e b k p (nexted (st .config) (worldOf e b k p st) (passOf (st .pass)))
+        → (b k : List ℕ) (ys : List PeerRecord) → Fits e b k ys st → PassPost st m o e b k ys (nexted (st .config) (worldOf e b k ys st) (passOf (st .pass)))
     unfolding offered
-    next-ended q g b k p f = post-as (searched b k p [] (rw q)) (only-post e b k p f refl (g (worldOf e b k p st)))
+    next-ended q g b k ys f = post-as (searched b k ys [] (rw q)) (only-post e b k ys f refl (g (worldOf e b k ys st)))
 
 -- ---- answer: single steps
 
@@ -183,12 +203,12 @@ module _ (st : Mempool) (c : ℕ) (q : Pass) (a : passOf q ≡ answeredWith c (p
 -- ---- answer: what the steps come to
 
 -- entries, boxes and the pass are new
-stepped-post : {st r : Mempool} {o n : Outcome} {e b k p e' b' : List ℕ} {t : Tables} {q : PassNow} → Fits e b k p st → Stepped e' b' st r t q → o ≡ n
-    → PassPost st r o e' b' k p (record { outcome = n; world = world t (worldOf e b k p st .cache) (worldOf e b k p st .sum) (worldOf e b k p st .peers); pass = q })
+stepped-post : {st r : Mempool} {o n : Outcome} {e b k e' b' : List ℕ} {ys : List PeerRecord} {t : Tables} {q : PassNow} → Fits e b k ys st → Stepped e' b' st r t q → o ≡ n
+    → PassPost st r o e' b' k ys (record { outcome = n; world = world t (worldOf e b k ys st .cache) (worldOf e b k ys st .sum) (worldOf e b k ys st .peers); pass = q })
 stepped-post {st} {r} f s z =
     post-with (s .state)
     (record {
-      fits = record { tests = record { pool = s .left .fits; cache = f .tests .cache }; keeps = f .keeps; words = f .words; used = f .used };
+      fits = record { tests = record { pool = s .left .fits; cache = f .tests .cache }; keeps = f .keeps; records = f .records; used = f .used };
       config = refl;
       outcome = z;
       world = rw (s .left .tables);
@@ -196,18 +216,18 @@ stepped-post {st} {r} f s z =
     })
 
 module _ (e b k : List ℕ) (st : Mempool) where
-  pub weigh-absent : (v : Verdict) → v ≡ Absent → (p : List ℕ) → Fits e b k p st
-      → PassPost st st (answeredOf AnswerNeeded) e b k p (weighed (st .config) (worldOf e b k p st) (passOf (st .pass)) v)
+  pub weigh-absent : (v : Verdict) → v ≡ Absent → (ys : List PeerRecord) → Fits e b k ys st
+      → PassPost st st (answeredOf AnswerNeeded) e b k ys (weighed (st .config) (worldOf e b k ys st) (passOf (st .pass)) v)
   unfolding weighed answeredOf
-  weigh-absent v q p f = post-as (ap (weighed (st .config) (worldOf e b k p st) (passOf (st .pass))) q) (post-still e b k p st _ _ f refl)
+  weigh-absent v q ys f = post-as (ap (weighed (st .config) (worldOf e b k ys st) (passOf (st .pass))) q) (post-still e b k ys st _ _ f refl)
 
   pub weigh-valid : (v : Verdict) (c : ℕ) → v ≡ Valid c → (e' : List ℕ) (r : Mempool)
       → ((b : List ℕ) → BoxesOk b (st .counts .records) → Stepped e' b st r
       (record { entries = stamped (idOf (st .pass .candidate)) (Measured c) (st .pass .time) (entriesOf e (st .counts .pooled)); boxes = boxesOf b (st .counts .records) })
       (answeredWith c (passOf (st .pass))))
-      → (p : List ℕ) → Fits e b k p st → PassPost st r (answeredOf (FoundValid (st .pass .candidate))) e' b k p (weighed (st .config) (worldOf e b k p st) (passOf (st .pass)) v)
+      → (ys : List PeerRecord) → Fits e b k ys st → PassPost st r (answeredOf (FoundValid (st .pass .candidate))) e' b k ys (weighed (st .config) (worldOf e b k ys st) (passOf (st .pass)) v)
   unfolding weighed answeredOf
-  weigh-valid v c q e' r s p f = post-as (ap (weighed (st .config) (worldOf e b k p st) (passOf (st .pass))) q) (stepped-post f (s b (f .tests .pool .boxes)) refl)
+  weigh-valid v c q e' r s ys f = post-as (ap (weighed (st .config) (worldOf e b k ys st) (passOf (st .pass))) q) (stepped-post f (s b (f .tests .pool .boxes)) refl)
 
   module _ (k' : List ℕ) (m : Mempool) (d : Cached k k' st m (st .pass .time) (idOf (st .pass .candidate))) where
     -- the counts of the pool are as they were
@@ -217,16 +237,16 @@ module _ (e b k : List ℕ) (st : Mempool) where
     pub weigh-invalid : (v : Verdict) → v ≡ Invalid → (e' b' : List ℕ) (r : Mempool)
         → Stepped e' b' m r (removeTx (idOf (m .pass .candidate)) (tablesOf e b (m .counts)))
         (answeredWith (previousCost (found (λ x. x .id) (idOf (m .pass .candidate)) (entriesOf e (m .counts .pooled)))) (passOf (m .pass)))
-        → (p : List ℕ) → Fits e b k p st → PassPost st r (answeredOf (FoundInvalid (st .pass .candidate))) e' b' k' p (weighed (st .config) (worldOf e b k p st) (passOf (st .pass)) v)
+        → (ys : List PeerRecord) → Fits e b k ys st → PassPost st r (answeredOf (FoundInvalid (st .pass .candidate))) e' b' k' ys (weighed (st .config) (worldOf e b k ys st) (passOf (st .pass)) v)
     unfolding weighed answeredOf
-    weigh-invalid v q e' b' r s p f =
-        post-as (ap (weighed (st .config) (worldOf e b k p st) (passOf (st .pass))) q)
+    weigh-invalid v q e' b' r s ys f =
+        post-as (ap (weighed (st .config) (worldOf e b k ys st) (passOf (st .pass))) q)
         (let z = subst (λ (x : Mempool).
         Stepped e' b' x r (removeTx (idOf (x .pass .candidate)) (tablesOf e b (x .counts)))
         (answeredWith (previousCost (found (λ x. x .id) (idOf (x .pass .candidate)) (entriesOf e (x .counts .pooled)))) (passOf (x .pass)))) (d .state) s in
         post-with (z .state)
         (record {
-          fits = record { tests = record { pool = z .left .fits; cache = d .inserted .ok }; keeps = rw (room-still k k' (d .inserted .size)) (f .keeps); words = f .words; used = f .used };
+          fits = record { tests = record { pool = z .left .fits; cache = d .inserted .ok }; keeps = rw (room-still k k' (d .inserted .size)) (f .keeps); records = f .records; used = f .used };
           config = refl;
           outcome = refl;
           world = rw (z .left .tables, d .inserted .rows);
@@ -258,27 +278,27 @@ module _ (closed : Bool) (m l : ℕ) {n : ℕ} (q : n ≡ answerCode closed m l)
 
 module _ (e b k : List ℕ) (st : Mempool) (flags : List ℕ) (v : Verdict) {n : ℕ}
     (q : n ≡ answerCode (noneOut (st .pass)) (length flags) (length (inputsOf (idOf (st .pass .candidate)) (boxesOf b (st .counts .records))))) where
-  pub answer-stopped : (n ≡ 0 → ⊥) → (p : List ℕ) → Fits e b k p st
-      → PassPost st st (answeredOf (NotAnswered n)) e b k p (answered (st .config) (worldOf e b k p st) (passOf (st .pass)) flags v)
+  pub answer-stopped : (n ≡ 0 → ⊥) → (ys : List PeerRecord) → Fits e b k ys st
+      → PassPost st st (answeredOf (NotAnswered n)) e b k ys (answered (st .config) (worldOf e b k ys st) (passOf (st .pass)) flags v)
   unfolding answered answerRefusal answerCode answeredOf
-  answer-stopped h p f = rw (← q) (post-as (no _ _ _ (ne-eqb n 0 h)) (post-still e b k p st _ _ f refl))
+  answer-stopped h ys f = rw (← q) (post-as (no _ _ _ (ne-eqb n 0 h)) (post-still e b k ys st _ _ f refl))
 
   -- an input is found nowhere
   module _ (h : n ≡ 0) {t : Bool} (z : t ≡ allResolved (index true (boxesOf b (st .counts .records))) (flagged (inputsOf (idOf (st .pass .candidate)) (boxesOf b (st .counts .records))) flags)) where
     pub answer-missing : not t ≡ true → (e' b' : List ℕ) (r : Mempool)
         → Stepped e' b' st r (removeTx (idOf (st .pass .candidate)) (tablesOf e b (st .counts)))
         (answeredWith (previousCost (found (λ x. x .id) (idOf (st .pass .candidate)) (entriesOf e (st .counts .pooled)))) (passOf (st .pass)))
-        → (p : List ℕ) → Fits e b k p st
-        → PassPost st r (answeredOf (InputMissing (st .pass .candidate))) e' b' k p (answered (st .config) (worldOf e b k p st) (passOf (st .pass)) flags v)
+        → (ys : List PeerRecord) → Fits e b k ys st
+        → PassPost st r (answeredOf (InputMissing (st .pass .candidate))) e' b' k ys (answered (st .config) (worldOf e b k ys st) (passOf (st .pass)) flags v)
     unfolding answered answerRefusal answerCode lacksInput answeredOf
-    answer-missing y e' b' r s p f = rw (← q) (post-as (yes _ _ _ (eq-eqb n 0 h) ∙ yes _ _ _ (ap not (sym z) ∙ y)) (stepped-post f s refl))
+    answer-missing y e' b' r s ys f = rw (← q) (post-as (yes _ _ _ (eq-eqb n 0 h) ∙ yes _ _ _ (ap not (sym z) ∙ y)) (stepped-post f s refl))
 
     -- all are found
     pub answer-weighed : not t ≡ false → (e' b' k' : List ℕ) (r : Mempool) (o : Outcome)
-        → ((p : List ℕ) → Fits e b k p st → PassPost st r o e' b' k' p (weighed (st .config) (worldOf e b k p st) (passOf (st .pass)) v))
-        → (p : List ℕ) → Fits e b k p st → PassPost st r o e' b' k' p (answered (st .config) (worldOf e b k p st) (passOf (st .pass)) flags v)
+        → ((ys : List PeerRecord) → Fits e b k ys st → PassPost st r o e' b' k' ys (weighed (st .config) (worldOf e b k ys st) (passOf (st .pass)) v))
+        → (ys : List PeerRecord) → Fits e b k ys st → PassPost st r o e' b' k' ys (answered (st .config) (worldOf e b k ys st) (passOf (st .pass)) flags v)
     unfolding answered answerRefusal answerCode lacksInput
-    answer-weighed y e' b' k' r o g p f = rw (← q) (post-as (yes _ _ _ (eq-eqb n 0 h) ∙ no _ _ _ (ap not (sym z) ∙ y)) (g p f))
+    answer-weighed y e' b' k' r o g ys f = rw (← q) (post-as (yes _ _ _ (eq-eqb n 0 h) ∙ no _ _ _ (ap not (sym z) ∙ y)) (g ys f))
 
 -- ---- answer: single tests
 

@@ -1,5 +1,5 @@
 -- What the calls of a pass and a rebroadcast leave, as their contracts say it: one record, of the words and the state at exit, against a result of
--- the definitions; and one of what they leave where the counts do not fit the words.
+-- the definitions.
 use Prim.Native.Nat.{ℕ, _/_, _≤_}
 use mathlib.Core.Path.{_≡_}
 use mathlib.Core.Bool.{Bool, not, _&&_}
@@ -9,7 +9,8 @@ use lib.ListN.{length}
 use Rattle.words.specs.Lists.{pick}
 use Rattle.pool_types.specs.declared.Mempool.{Mempool}
 use Rattle.pool_types.specs.declared.Pass.{Pass}
-use Rattle.pool_types.specs.Outcomes.{Outcome, refused}
+use Rattle.pool_types.specs.Outcomes.{Outcome, refused, wrote}
+use Rattle.peers.specs.declared.PeerRecord.{PeerRecord}
 use Rattle.answers.specs.Answers.{Wrote}
 use Rattle.pool.specs.Pool.{Tables, Left}
 use Rattle.store.specs.World.{World, worldOf, Result}
@@ -17,12 +18,12 @@ use Rattle.store.specs.Fits.{Fits}
 use Rattle.returns.specs.Post.{recounted}
 use Rattle.cleanup.specs.Passes.{PassNow, passOf, PassResult}
 
--- from the state st, r was handed back with the outcome o; the words of entries, boxes, cache and peers are now e, b, k and p: all as s has it
-pub record PassPost (st r : Mempool) (o : Outcome) (e b k p : List ℕ) (s : PassResult) : Type 0 where
-  pub fits : Fits e b k p r
+-- from the state st, r was handed back with the outcome o; the words of entries, boxes and cache are now e, b and k, the peer records ys: all as s has it
+pub record PassPost (st r : Mempool) (o : Outcome) (e b k : List ℕ) (ys : List PeerRecord) (s : PassResult) : Type 0 where
+  pub fits : Fits e b k ys r
   pub config : r .config ≡ st .config
   pub outcome : o ≡ s .outcome
-  pub world : worldOf e b k p r ≡ s .world
+  pub world : worldOf e b k ys r ≡ s .world
   pub pass : passOf (r .pass) ≡ s .pass
 
 -- ---- on any words
@@ -36,13 +37,6 @@ pub record PassOnly (st r : Mempool) (o : Outcome) (s : PassResult) : Type 0 whe
   pub state : r ≡ repassed st (r .pass)
   pub outcome : o ≡ s .outcome
   pub pass : passOf (r .pass) ≡ s .pass
-
--- counts that do not fit (docs/DECISIONS.md, D2): 21 where it is due and 1 elsewhere; nothing changed, neither the state nor a word of the lent
--- tables, which were `was` and are `are`
-pub record Untouched (st r : Mempool) (o : Outcome) (closed : Bool) (was are : List (List ℕ)) : Type 0 where
-  pub state : r ≡ st
-  pub outcome : o ≡ refused (pick closed 21 1) 0
-  pub words : are ≡ was
 
 -- "or for answer no candidate is out"
 abbrev pub noneOut : Pass → Bool
@@ -68,3 +62,8 @@ pub record Sent (l m : List ℕ) (o : Outcome) (w : World) (s : Result) : Type 0
   pub wrote : Wrote l m 0 (s .written)
   -- each id that is written has its place
   pub placed : length (s .written) ≤ length l / 4
+
+-- .. on any words: a refusal writes nothing, and no more ids are told than there are places
+pub record Told (l m : List ℕ) (o : Outcome) : Type 0 where
+  pub refusal : (j i : ℕ) → o ≡ refused j i → m ≡ l
+  pub few : (n : ℕ) → o ≡ wrote n → n ≤ length l / 4

@@ -20,7 +20,7 @@ use Rattle.store.specs.World.{World, Result, unchanged}
 abbrev pub sendable : List ℕ → List BoxRec → Entry → Bool
 sendable confirmed rs e = allAmong confirmed (inputsOf (e .id) rs)
 
--- the first so many in priority order, as the Rust has it: "up to rebroadcast_count txs whose inputs exist in the UTXO set"
+-- the first so many in priority order
 unfoldable pub chosen : ℕ → List ℕ → Tables → List ℕ
 chosen most confirmed t = take most (map (λ e. e .id) (keep (sendable confirmed (t .boxes)) (t .entries)))
 

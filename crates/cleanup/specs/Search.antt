@@ -30,7 +30,7 @@ idsAt l (At i) = entryAt l i .id ∷ []
 idsAt l Nowhere = []
 
 -- what a pass offers: none where its sum has reached the limit, else the first due entry
-abbrev pub offers : ℕ → PassNow → List Entry → List ℕ
+abbrev offers : ℕ → PassNow → List Entry → List ℕ
 offers interval p es = pick (leb (p .limit) (p .spent)) [] (firstDue interval p es)
 
 -- the place that a search in the first n entries found
@@ -72,15 +72,15 @@ take true false false h = (refl, refl)
 take false l a h = let z : _≡_ {A = ℕ} 0 1 = cc in absurd (omega arith)
 
 module _ (g : ℕ) (p : PassNow) (e : Entry) {r : Look} (q : r ≡ looked g p e) where
-  pub over-is : r ≡ Over → isCandidate g p e ≡ false
+  over-is : r ≡ Over → isCandidate g p e ≡ false
   unfolding looked isCandidate by
   over-is h = over (due g (p .time) (e .lastChecked)) (leb (p .limit) (p .spent)) (aheadOf (e .heightKey) (p .preheader)) (sym q ∙ h)
 
-  pub stop-is : r ≡ Stop → leb (p .limit) (p .spent) ≡ true
+  stop-is : r ≡ Stop → leb (p .limit) (p .spent) ≡ true
   unfolding looked by
   stop-is h = stop (due g (p .time) (e .lastChecked)) (leb (p .limit) (p .spent)) (aheadOf (e .heightKey) (p .preheader)) (sym q ∙ h)
 
-  pub take-is : r ≡ Take → (leb (p .limit) (p .spent) ≡ false) × (isCandidate g p e ≡ true)
+  take-is : r ≡ Take → (leb (p .limit) (p .spent) ≡ false) × (isCandidate g p e ≡ true)
   unfolding looked isCandidate by
   take-is h = take (due g (p .time) (e .lastChecked)) (leb (p .limit) (p .spent)) (aheadOf (e .heightKey) (p .preheader)) (sym q ∙ h)
 

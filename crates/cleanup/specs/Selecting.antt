@@ -13,8 +13,9 @@ use Rattle.words.specs.Lists.{pick, yes, no, keep, keep-append, map-append}
 use Rattle.words.specs.Tables.{of-none, of-suc}
 use Rattle.pool_types.specs.declared.Mempool.{Mempool}
 use Rattle.pool_types.specs.declared.ListOutcome.the-variants.{Listed, NotListed}
-use Rattle.pool_types.specs.Outcomes.{Outcome, wrote, listedOf}
+use Rattle.pool_types.specs.Outcomes.{Outcome, refused, wrote, listedOf}
 use Rattle.arguments.specs.Arguments.{whole}
+use Rattle.peers.specs.declared.PeerRecord.{PeerRecord}
 use Rattle.entries.specs.Entries.{Entry}
 use Rattle.entries.specs.Layout.{entryAt, entriesOf, entries}
 use Rattle.boxes.specs.Records.{BoxRec, inputsOf}
@@ -24,11 +25,12 @@ use Rattle.answers.specs.Answers.{Wrote, wrote-nothing, wrote-both}
 use Rattle.pool.specs.Pool.{Tables, tablesOf}
 use Rattle.store.specs.World.{World, worldOf, Result}
 use Rattle.cleanup.specs.Rebroadcast.{sendable, chosen, rebroadcastRefusal, rebroadcast}
-use Rattle.cleanup.specs.Post.{Sent}
+use Rattle.cleanup.specs.Post.{Sent, Told}
 use Rattle.cleanup.specs.Numbers.{ofRebroadcast}
+use Rattle.cleanup.specs.Laws.{never}
 
 -- of an entry, its id or none
-abbrev pub sent : List ℕ → List BoxRec → Entry → List ℕ
+abbrev sent : List ℕ → List BoxRec → Entry → List ℕ
 sent cs rs e = pick (sendable cs rs e) (e .id ∷ []) []
 
 -- one entry was looked at: n ids stood in the buffer l, and r stand in m
@@ -56,7 +58,7 @@ pub record Selected (l m : List ℕ) (most : ℕ) (cs : List ℕ) (t : Tables) (
 -- ---- so far
 
 -- the ids of the first i entries that qualify
-abbrev pub sofar : List ℕ → List BoxRec → List ℕ → ℕ → List ℕ
+abbrev sofar : List ℕ → List BoxRec → List ℕ → ℕ → List ℕ
 sofar cs rs l i = map (λ e. e .id) (keep (sendable cs rs) (entriesOf l i))
 
 -- of the first i of N entries those that qualify were written, n of them, and no more than are to be
@@ -146,21 +148,34 @@ module _ (cs : List ℕ) (rs : List BoxRec) (es : List ℕ) where
 sent-as : {l m : List ℕ} {o : Outcome} {w : World} {s t : Result} → s ≡ t → Sent l m o w t → Sent l m o w s
 sent-as q h = rw q h
 
-module _ (e b k p l : List ℕ) (st : Mempool) (confirmed : List ℕ) {n : ℕ} (q : n ≡ rebroadcastRefusal st (length l / 4) confirmed) where
-  pub sent-refused : (n ≡ 0 → ⊥) → Sent l l (listedOf (NotListed n)) (worldOf e b k p st) (rebroadcast st (worldOf e b k p st) (length l / 4) confirmed)
+module _ (e b k : List ℕ) (ys : List PeerRecord) (l : List ℕ) (st : Mempool) (confirmed : List ℕ) {n : ℕ} (q : n ≡ rebroadcastRefusal st (length l / 4) confirmed) where
+  pub sent-refused : (n ≡ 0 → ⊥) → Sent l l (listedOf (NotListed n)) (worldOf e b k ys st) (rebroadcast st (worldOf e b k ys st) (length l / 4) confirmed)
   unfolding rebroadcast listedOf
   sent-refused h = rw (← q) (sent-as (no _ _ _ (ne-eqb n 0 h)) (record { outcome = refl; world = refl; wrote = wrote-nothing l 0; placed = omega arith }))
 
-  pub sent-selected : n ≡ 0 → (m : List ℕ) (r : ℕ) → Selected l m (st .config .«rebroadcast_count») (idsOf 4 confirmed) (tablesOf e b (st .counts)) r
-      → Sent l m (listedOf (Listed r)) (worldOf e b k p st) (rebroadcast st (worldOf e b k p st) (length l / 4) confirmed)
-  unfolding rebroadcast listedOf rebroadcastRefusal
-  sent-selected h m r s = rw (← q) (sent-as (yes _ _ _ (eq-eqb n 0 h)) (record { outcome = ap wrote (s .count); world = refl; wrote = s .wrote; placed = room (not (whole 4 confirmed)) (ltb (length l / 4) (st .counts .pooled + 1)) refl (sym q ∙ h) }))
+  -- each id has its place
+  pub sent-placed : n ≡ 0 → {m : List ℕ} {r : ℕ} → Selected l m (st .config .«rebroadcast_count») (idsOf 4 confirmed) (tablesOf e b (st .counts)) r → r ≤ length l / 4
+  unfolding rebroadcastRefusal
+  sent-placed h {m} {r} s = room (not (whole 4 confirmed)) (ltb (length l / 4) (st .counts .pooled + 1)) refl (sym q ∙ h)
     where
-      room : (t u : Bool) → ltb (length l / 4) (st .counts .pooled + 1) ≡ u → _≡_ {A = ℕ} (pick t 1 (pick u 2 0)) 0
-          → length (chosen (st .config .«rebroadcast_count») (idsOf 4 confirmed) (tablesOf e b (st .counts))) ≤ length l / 4
+      room : (t u : Bool) → ltb (length l / 4) (st .counts .pooled + 1) ≡ u → _≡_ {A = ℕ} (pick t 1 (pick u 2 0)) 0 → r ≤ length l / 4
       room true u x z = absurd (omega arith)
       room false true x z = absurd (omega arith)
-      room false false x z = omega (arith, ltb-false (length l / 4) (st .counts .pooled + 1) x, s .count, s .few, entries .len e (st .counts .pooled))
+      room false false x z = omega (arith, ltb-false (length l / 4) (st .counts .pooled + 1) x, s .few, entries .len e (st .counts .pooled))
+
+  pub sent-selected : n ≡ 0 → (m : List ℕ) (r : ℕ) → Selected l m (st .config .«rebroadcast_count») (idsOf 4 confirmed) (tablesOf e b (st .counts)) r
+      → Sent l m (listedOf (Listed r)) (worldOf e b k ys st) (rebroadcast st (worldOf e b k ys st) (length l / 4) confirmed)
+  unfolding rebroadcast listedOf
+  sent-selected h m r s = rw (← q) (sent-as (yes _ _ _ (eq-eqb n 0 h)) (record { outcome = ap wrote (s .count); world = refl; wrote = s .wrote; placed = omega (arith, s .count, sent-placed h s) }))
+
+-- ---- on any words
+
+module _ {o : Outcome} (l : List ℕ) where
+  pub told-refused : {j i : ℕ} → o ≡ refused j i → Told l l o
+  told-refused e = record { refusal = λ x y q. refl; few = λ n q. never cc }
+
+  pub told-wrote : (m : List ℕ) (r : ℕ) → o ≡ wrote r → r ≤ length l / 4 → Told l m o
+  told-wrote m r e h = record { refusal = λ x y q. never cc; few = λ n q. let z : r ≡ n = cc in omega arith }
 
 -- a number is one of this call
 pub sent-numbered : (st : Mempool) (room : ℕ) (confirmed : List ℕ) {n : ℕ} → n ≡ rebroadcastRefusal st room confirmed → (n ≡ 0 → ⊥) → ofRebroadcast (NotListed n) ≡ true

@@ -12,10 +12,8 @@ use entries::fields::validation_cost_at;
 use entries::table::Place;
 use entries::table::find_entry;
 use entries::table::stamp_entry;
-use expiring_cache::cache_room;
 use indexes::inputs::count_inputs;
 use indexes::resolved::answer_resolved;
-use pool::fits;
 use pool::remove;
 use pool_types::AnswerOutcome;
 use pool_types::Mempool;
@@ -23,6 +21,8 @@ use pool_types::NextOutcome;
 use pool_types::OpenOutcome;
 use pool_types::Pass;
 use pool_types::Verdict;
+use returns::remember;
+use store::fits_cache;
 use words::ids::Id;
 use words::sums::saturating_add;
 use words::sums::saturating_sub;
@@ -35,9 +35,10 @@ ghost use lib.ListN.{length};
 ghost use Rattle.words.specs.Lists.{pick};
 ghost use Rattle.words.specs.Find.{found};
 ghost use Rattle.words.specs.Ids.{idOf};
-ghost use Rattle.pool_types.specs.Outcomes.{openedOf, nextOf, answeredOf};
+ghost use Rattle.pool_types.specs.Outcomes.{refused, openedOf, nextOf, answeredOf};
 ghost use Rattle.arguments.specs.Arguments.{aheadOf};
-ghost use Rattle.expiring_cache.specs.Layout.{CacheOk, cacheRoom};
+ghost use Rattle.expiring_cache.specs.Layout.{cacheRoom};
+ghost use Rattle.peers.specs.declared.PeerRecord.{PeerRecord};
 ghost use Rattle.entries.specs.Entries.{stamped};
 ghost use Rattle.entries.specs.Layout.{EntriesOk, entryAt, entriesOf, entriesRoom};
 ghost use Rattle.entries.specs.declared.fields.ValidationCost.the-variants.{Measured};
@@ -45,10 +46,10 @@ ghost use Rattle.boxes.specs.Records.{inputsOf};
 ghost use Rattle.boxes.specs.Layout.{BoxesOk, boxesOf};
 ghost use Rattle.pool.specs.Pool.{PoolFits, tablesOf, removeTx};
 ghost use Rattle.store.specs.World.{World, worldOf};
-ghost use Rattle.store.specs.Fits.{Testable, Fits};
-ghost use Rattle.returns.specs.Post.{cacheFits, Cached};
+ghost use Rattle.store.specs.Fits.{Testable, Fits, cacheFits};
+ghost use Rattle.store.specs.Spares.{Spares, lent};
 ghost use Rattle.cleanup.specs.Passes.{passOf, opened, due, offered, measured, previousCost, answeredWith, weighed};
-ghost use Rattle.cleanup.specs.Post.{PassPost, PassOnly, repassed, Untouched, noneOut, answerCode, Stepped};
+ghost use Rattle.cleanup.specs.Post.{PassPost, PassOnly, repassed, noneOut, answerCode, Stepped};
 ghost use Rattle.cleanup.specs.Promises.{OpenPromise, NextPromise, AnswerPromise};
 ghost use Rattle.cleanup.specs.Numbers.{ofOpen, ofNext, ofAnswer};
 ghost use Rattle.cleanup.specs.Search.{looked, Sought};
@@ -87,6 +88,7 @@ fn no_id() -> Id
 pub fn open(mempool: Mempool, time: u64, limit: u64, preheader: u32) -> Opened
     ensures { λ r. ⌜ OpenPromise mempool time limit preheader (r .mempool) (openedOf (r .outcome)) ⌝ }
     ensures { λ r. ⌜ ofOpen (r .outcome) ≡ true ⌝ }
+    ensures { λ r. ⌜ ((e b k : List ℕ) (ys : List PeerRecord) (a : List ℕ) → Spares (openedOf (r .outcome)) (lent e b k ys a mempool) (lent e b k ys a (r .mempool))) ⌝ }
     ensures { λ r. ⌜ ((w : World) → PassOnly mempool (r .mempool) (openedOf (r .outcome)) (opened w (passOf (mempool .pass)) time limit preheader)) ⌝ }
 {
     if mempool.pass.open {
@@ -224,9 +226,10 @@ fn end_pass(mempool: Mempool) -> Offered
 pub fn next(entries: &[u64], mempool: Mempool) -> Offered
     ensures { λ r. ⌜ NextPromise (now (entries .entry)) mempool (r .mempool) (nextOf (r .outcome)) ⌝ }
     ensures { λ r. ⌜ ofNext (r .outcome) ≡ true ⌝ }
+    ensures { λ r. ⌜ ((b k : List ℕ) (ys : List PeerRecord) (a : List ℕ) → Spares (nextOf (r .outcome))
+        (lent (now (entries .entry)) b k ys a mempool) (lent (now (entries .entry)) b k ys a (r .mempool))) ⌝ }
+    ensures { λ r. ⌜ (leb (mempool .counts .pooled) (entriesRoom (now (entries .entry))) ≡ false → nextOf (r .outcome) ≡ refused (pick (not (mempool .pass .open)) 21 1) 0) ⌝ }
     ensures { λ r. ⌜ r .mempool ≡ repassed mempool (r .mempool .pass) ⌝ }
-    ensures { λ r. ⌜ (leb (mempool .counts .pooled) (entriesRoom (now (entries .entry))) ≡ false →
-        Untouched mempool (r .mempool) (nextOf (r .outcome)) (not (mempool .pass .open)) [] []) ⌝ }
 {
     let pass = mempool.pass;
     if !pass.open {
@@ -256,24 +259,6 @@ pub fn next(entries: &[u64], mempool: Mempool) -> Offered
 }
 
 // ---- answer: what is tested
-
-// Whether the counts of pool and cache fit the words that are lent, and the cache has room for its capacity.
-fn fits_cache(entries: &[u64], boxes: &[u64], cache: &[u64], mempool: Mempool) -> bool
-    ensures { λ r. ⌜ r ≡ cacheFits (now (entries .entry)) (now (boxes .entry)) (now (cache .entry)) mempool ⌝ }
-{
-    let counts = mempool.counts;
-    if !fits(entries, boxes, counts) {
-        return false;
-    }
-    let room = cache_room(cache);
-    if room < mempool.cached {
-        return false;
-    }
-    if room == 0 {
-        return false;
-    }
-    mempool.config.invalidation_capacity <= room
-}
 
 // Whether no candidate waits for its answer.
 fn none_out(pass: Pass) -> bool
@@ -366,24 +351,6 @@ fn take_out(entries: &mut [u64], boxes: &mut [u64], mempool: Mempool) -> Mempool
     }
 }
 
-// The candidate's id enters the cache, where it is not there, at the pass's time.
-fn remember(cache: &mut [u64], mempool: Mempool) -> Mempool
-    requires { ⌜ CacheOk (now cache) (mempool .cached) ⌝ }
-    requires { ⌜ max (mempool .config .«invalidation_capacity») 1 ≤ cacheRoom (now cache) ⌝ }
-    ensures { λ r. ⌜ Cached (now (cache .entry)) (now (cache .exit)) mempool r (mempool .pass .time) (idOf (mempool .pass .candidate)) ⌝ }
-{
-    let pass = mempool.pass;
-    let id = pass.candidate;
-    let cached = expiring_cache::insert(
-        cache,
-        mempool.cached,
-        mempool.config.invalidation_capacity,
-        pass.time,
-        id,
-    );
-    Mempool { cached, ..mempool }
-}
-
 // The candidate is stamped with the cost that was measured and the pass's time, and that cost is added.
 fn stamp(entries: &mut [u64], mempool: Mempool, cost: u64) -> Mempool
     requires { ⌜ EntriesOk (now entries) (mempool .counts .pooled) ⌝ }
@@ -409,10 +376,13 @@ fn weigh(
 ) -> Answered
     requires { ⌜ Testable (now entries) (now boxes) (now cache) mempool ⌝ }
     requires { ⌜ max (mempool .config .«invalidation_capacity») 1 ≤ cacheRoom (now cache) ⌝ }
-    ensures { λ r. ⌜ ((p : List ℕ) → Fits (now (entries .entry)) (now (boxes .entry)) (now (cache .entry)) p mempool →
-        PassPost mempool (r .mempool) (answeredOf (r .outcome)) (now (entries .exit)) (now (boxes .exit)) (now (cache .exit)) p
-        (weighed (mempool .config) (worldOf (now (entries .entry)) (now (boxes .entry)) (now (cache .entry)) p mempool) (passOf (mempool .pass)) verdict)) ⌝ }
+    ensures { λ r. ⌜ ((ys : List PeerRecord) → Fits (now (entries .entry)) (now (boxes .entry)) (now (cache .entry)) ys mempool →
+        PassPost mempool (r .mempool) (answeredOf (r .outcome)) (now (entries .exit)) (now (boxes .exit)) (now (cache .exit)) ys
+        (weighed (mempool .config) (worldOf (now (entries .entry)) (now (boxes .entry)) (now (cache .entry)) ys mempool) (passOf (mempool .pass)) verdict)) ⌝ }
     ensures { λ r. ⌜ ofAnswer (r .outcome) ≡ true ⌝ }
+    ensures { λ r. ⌜ ((ys : List PeerRecord) (a : List ℕ) → Spares (answeredOf (r .outcome))
+        (lent (now (entries .entry)) (now (boxes .entry)) (now (cache .entry)) ys a mempool)
+        (lent (now (entries .exit)) (now (boxes .exit)) (now (cache .exit)) ys a (r .mempool))) ⌝ }
 {
     let id = mempool.pass.candidate;
     match verdict {
@@ -421,7 +391,7 @@ fn weigh(
             outcome: AnswerOutcome::AnswerNeeded,
         },
         Verdict::Invalid => {
-            let known = remember(cache, mempool);
+            let known = remember(cache, mempool, mempool.pass.time, id);
             let after = take_out(entries, boxes, known);
             Answered {
                 mempool: after,
@@ -449,8 +419,10 @@ pub fn answer(
 ) -> Answered
     ensures { λ r. ⌜ AnswerPromise (now (entries .entry)) (now (boxes .entry)) (now (cache .entry)) mempool (now (flags .entry)) verdict (now (entries .exit)) (now (boxes .exit)) (now (cache .exit)) (r .mempool) (answeredOf (r .outcome)) ⌝ }
     ensures { λ r. ⌜ ofAnswer (r .outcome) ≡ true ⌝ }
-    ensures { λ r. ⌜ (cacheFits (now (entries .entry)) (now (boxes .entry)) (now (cache .entry)) mempool ≡ false →
-        Untouched mempool (r .mempool) (answeredOf (r .outcome)) (noneOut (mempool .pass)) (now (entries .entry) ∷ now (boxes .entry) ∷ now (cache .entry) ∷ []) (now (entries .exit) ∷ now (boxes .exit) ∷ now (cache .exit) ∷ [])) ⌝ }
+    ensures { λ r. ⌜ ((ys : List PeerRecord) (a : List ℕ) → Spares (answeredOf (r .outcome))
+        (lent (now (entries .entry)) (now (boxes .entry)) (now (cache .entry)) ys a mempool)
+        (lent (now (entries .exit)) (now (boxes .exit)) (now (cache .exit)) ys a (r .mempool))) ⌝ }
+    ensures { λ r. ⌜ (cacheFits (now (entries .entry)) (now (boxes .entry)) (now (cache .entry)) mempool ≡ false → answeredOf (r .outcome) ≡ refused (pick (noneOut (mempool .pass)) 21 1) 0) ⌝ }
 {
     let pass = mempool.pass;
     if !fits_cache(entries, boxes, cache, mempool) {

@@ -9,16 +9,14 @@ use pool_types::ListOutcome;
 use pool_types::Mempool;
 ghost use mathlib.Core.Path.{_≡_};
 ghost use mathlib.Core.Bool.{true, false};
-ghost use mathlib.Core.List.{List};
-ghost use Prim.Native.Nat.{ℕ, _+_, _/_, _<_};
-ghost use lib.ListN.{length};
+ghost use Prim.Native.Nat.{_+_, _<_};
 ghost use Rattle.words.specs.Sums.{cap};
 ghost use Rattle.pool_types.specs.Outcomes.{listedOf, refused};
 ghost use Rattle.boxes.specs.Flat.{idsOf};
 ghost use Rattle.boxes.specs.Layout.{boxesOf};
 ghost use Rattle.entries.specs.Layout.{entryAt};
 ghost use Rattle.pool.specs.Pool.{PoolFits, fitsTest, tablesOf};
-ghost use Rattle.store.specs.World.{worldOf};
+ghost use Rattle.cleanup.specs.Post.{Told};
 ghost use Rattle.cleanup.specs.Rebroadcast.{rebroadcastRefusal};
 ghost use Rattle.cleanup.specs.Selecting.{SelectedOne, Selected};
 ghost use Rattle.cleanup.specs.Promises.{RebroadcastPromise};
@@ -95,8 +93,8 @@ pub fn select_for_rebroadcast(
 ) -> ListOutcome
     ensures { λ r. ⌜ RebroadcastPromise (now (entries .entry)) (now (boxes .entry)) mempool (now (confirmed .entry)) (now (answer .entry)) (now (answer .exit)) (listedOf r) ⌝ }
     ensures { λ r. ⌜ ofRebroadcast r ≡ true ⌝ }
-    ensures { λ r. ⌜ (fitsTest (now (entries .entry)) (now (boxes .entry)) (mempool .counts) ≡ false →
-        (listedOf r ≡ refused 1 0) × (now (answer .exit) ≡ now (answer .entry))) ⌝ }
+    ensures { λ r. ⌜ Told (now (answer .entry)) (now (answer .exit)) (listedOf r) ⌝ }
+    ensures { λ r. ⌜ (fitsTest (now (entries .entry)) (now (boxes .entry)) (mempool .counts) ≡ false → listedOf r ≡ refused 1 0) ⌝ }
 {
     let counts = mempool.counts;
     if !fits(entries, boxes, counts) {

@@ -48,7 +48,7 @@ returnedEntry g u ins outs =
       inputs = records 4 ins;
     }
 
--- it enters: "no charge, no credits, no eviction", and the cache is not asked
+-- "a return not refused enters one, without credits"; nothing is charged or evicted, and the cache is not asked (docs/DECISIONS.md, D20)
 unfoldable pub returned : ℕ → ℕ → Mempool → World → UnconfirmedTx → List ℕ → List ℕ → Result
 returned E R st w u ins outs =
     pick (eqb (returnRefusal E R st (w .tables) u ins outs) 0)

@@ -6,7 +6,6 @@ use arguments::is_whole;
 use entries::fields::PoolEntry;
 use entries::fields::ValidationCost;
 use entries::table::is_pooled;
-use expiring_cache::cache_room;
 use pool::fits;
 use pool::remove;
 use pool::room_for;
@@ -16,27 +15,29 @@ use pool_types::Mempool;
 use pool_types::MempoolConfig;
 use pool_types::ReturnOutcome;
 use pool_types::Source;
+use store::fits_cache;
 use store::unfit;
 use weight::fee_per_factor;
 use words::ids::Id;
 ghost use mathlib.Core.Path.{_≡_};
 ghost use mathlib.Core.Bool.{true, false, _&&_};
-ghost use mathlib.Core.List.{List, [], _∷_};
+ghost use mathlib.Core.List.{List};
 ghost use Prim.Native.Nat.{ℕ, _+_, _≤_, max};
 ghost use Rattle.words.specs.Lists.{pick};
 ghost use Rattle.words.specs.Ids.{idOf};
-ghost use Rattle.pool_types.specs.Outcomes.{returnedOf, invalidatedOf};
+ghost use Rattle.pool_types.specs.Outcomes.{refused, returnedOf, invalidatedOf};
 ghost use Rattle.arguments.specs.Arguments.{whole, records};
 ghost use Rattle.expiring_cache.specs.Layout.{CacheOk, cacheRoom};
+ghost use Rattle.peers.specs.declared.PeerRecord.{PeerRecord};
 ghost use Rattle.entries.specs.Layout.{entryOf, entriesRoom};
 ghost use Rattle.boxes.specs.Layout.{boxesRoom};
 ghost use Rattle.boxes.specs.Flat.{countOf, idsOf};
 ghost use Rattle.pool.specs.Pool.{PoolFits, fitsTest, Room, tablesOf, noRoom, insertTx, removeTx};
-ghost use Rattle.store.specs.World.{worldOf};
-ghost use Rattle.store.specs.Fits.{Fits};
+ghost use Rattle.store.specs.Fits.{cacheFits};
+ghost use Rattle.store.specs.Spares.{Spares, lent};
 ghost use Rattle.returns.specs.Returns.{returnRefusal, returnedEntry};
 ghost use Rattle.returns.specs.Promises.{ReturnPromise, InvalidatePromise};
-ghost use Rattle.returns.specs.Post.{Untouched, cacheFits, Tabled, Cached};
+ghost use Rattle.returns.specs.Post.{Tabled, Cached};
 ghost use Rattle.returns.specs.Numbers.{ofReturn, ofInvalidation};
 
 // The greatest size.
@@ -197,8 +198,10 @@ pub fn return_to_pool(
 ) -> Returned
     ensures { λ r. ⌜ ReturnPromise (now (entries .entry)) (now (boxes .entry)) mempool tx (now (inputs .entry)) (now (outputs .entry)) (now (entries .exit)) (now (boxes .exit)) (r .mempool) (returnedOf (r .outcome)) ⌝ }
     ensures { λ r. ⌜ ofReturn (r .outcome) ≡ true ⌝ }
-    ensures { λ r. ⌜ (fitsTest (now (entries .entry)) (now (boxes .entry)) (mempool .counts) ≡ false →
-        Untouched mempool (r .mempool) (returnedOf (r .outcome)) (now (entries .entry) ∷ now (boxes .entry) ∷ []) (now (entries .exit) ∷ now (boxes .exit) ∷ [])) ⌝ }
+    ensures { λ r. ⌜ ((k : List ℕ) (ys : List PeerRecord) (a : List ℕ) → Spares (returnedOf (r .outcome))
+        (lent (now (entries .entry)) (now (boxes .entry)) k ys a mempool)
+        (lent (now (entries .exit)) (now (boxes .exit)) k ys a (r .mempool))) ⌝ }
+    ensures { λ r. ⌜ (fitsTest (now (entries .entry)) (now (boxes .entry)) (mempool .counts) ≡ false → returnedOf (r .outcome) ≡ refused (pick (mempool .pass .open) 20 1) 0) ⌝ }
 {
     let counts = mempool.counts;
     if !fits(entries, boxes, counts) {
@@ -225,24 +228,6 @@ pub fn return_to_pool(
 
 // ---- an invalidation
 
-// Whether the counts of pool and cache fit the words that are lent, and the cache has room for its capacity.
-fn fits_cache(entries: &[u64], boxes: &[u64], cache: &[u64], mempool: Mempool) -> bool
-    ensures { λ r. ⌜ r ≡ cacheFits (now (entries .entry)) (now (boxes .entry)) (now (cache .entry)) mempool ⌝ }
-{
-    let counts = mempool.counts;
-    if !fits(entries, boxes, counts) {
-        return false;
-    }
-    let room = cache_room(cache);
-    if room < mempool.cached {
-        return false;
-    }
-    if room == 0 {
-        return false;
-    }
-    mempool.config.invalidation_capacity <= room
-}
-
 // Takes it out of the pool with its records, where it is there.
 fn take_out(entries: &mut [u64], boxes: &mut [u64], mempool: Mempool, id: Id) -> Mempool
     requires { ⌜ PoolFits (now entries) (now boxes) (mempool .counts) ⌝ }
@@ -253,8 +238,8 @@ fn take_out(entries: &mut [u64], boxes: &mut [u64], mempool: Mempool, id: Id) ->
     Mempool { counts, ..mempool }
 }
 
-// Puts its id into the cache, where it is not there.
-fn remember(cache: &mut [u64], mempool: Mempool, time: u64, id: Id) -> Mempool
+// Puts an id into the cache, where it is not there.
+pub fn remember(cache: &mut [u64], mempool: Mempool, time: u64, id: Id) -> Mempool
     requires { ⌜ CacheOk (now cache) (mempool .cached) ⌝ }
     requires { ⌜ max (mempool .config .«invalidation_capacity») 1 ≤ cacheRoom (now cache) ⌝ }
     ensures { λ r. ⌜ Cached (now (cache .entry)) (now (cache .exit)) mempool r time (idOf id) ⌝ }
@@ -280,8 +265,10 @@ pub fn invalidate(
 ) -> Invalidated
     ensures { λ r. ⌜ InvalidatePromise (now (entries .entry)) (now (boxes .entry)) (now (cache .entry)) mempool time (idOf id) (now (entries .exit)) (now (boxes .exit)) (now (cache .exit)) (r .mempool) (invalidatedOf (r .outcome)) ⌝ }
     ensures { λ r. ⌜ ofInvalidation (r .outcome) ≡ true ⌝ }
-    ensures { λ r. ⌜ (cacheFits (now (entries .entry)) (now (boxes .entry)) (now (cache .entry)) mempool ≡ false →
-        Untouched mempool (r .mempool) (invalidatedOf (r .outcome)) (now (entries .entry) ∷ now (boxes .entry) ∷ now (cache .entry) ∷ []) (now (entries .exit) ∷ now (boxes .exit) ∷ now (cache .exit) ∷ [])) ⌝ }
+    ensures { λ r. ⌜ ((ys : List PeerRecord) (a : List ℕ) → Spares (invalidatedOf (r .outcome))
+        (lent (now (entries .entry)) (now (boxes .entry)) (now (cache .entry)) ys a mempool)
+        (lent (now (entries .exit)) (now (boxes .exit)) (now (cache .exit)) ys a (r .mempool))) ⌝ }
+    ensures { λ r. ⌜ (cacheFits (now (entries .entry)) (now (boxes .entry)) (now (cache .entry)) mempool ≡ false → invalidatedOf (r .outcome) ≡ refused (pick (mempool .pass .open) 20 1) 0) ⌝ }
 {
     if !fits_cache(entries, boxes, cache, mempool) {
         return Invalidated {

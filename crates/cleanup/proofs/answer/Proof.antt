@@ -2,9 +2,10 @@
 use borrow.Author.Needs.{needs}
 use mathlib.Core.Path.{refl, ap}
 use Rattle.pool_types.specs.Outcomes.{refused, answeredOf}
-use Rattle.returns.specs.Laws.{met, was-met, not-met, cache-fits, cache-holds}
+use Rattle.store.specs.Fits.{met, was-met, not-met, cache-fits, cache-holds}
+use Rattle.store.specs.Spares.{spares-same, spares-missing}
 use Rattle.cleanup.specs.Numbers.{ofAnswer}
-use Rattle.cleanup.specs.Laws.{untouched, unfit-by, answer-unfit, answer-stopped, answer-flags, answer-numbered, answer-missing, answer-weighed}
+use Rattle.cleanup.specs.Laws.{unfit-by, answer-unfit, answer-stopped, answer-flags, answer-numbered, answer-missing, answer-weighed}
 use Rattle.cleanup.proofs.answer.Statement.{statement}
 use Rattle.cleanup.proofs.answer.Tie as tie
 
@@ -29,10 +30,10 @@ same-length-3 c = search needs
 returns : tie.Need-returns
 unfolding answeredOf
 returns c = (
-  λ p f. not-met (c .before .before .before .fits-cache .ensures) (c .before .before .if1 .taken) (cache-holds _ _ _ _ p f),
+  λ ys f. not-met (c .before .before .before .fits-cache .ensures) (c .before .before .if1 .taken) (cache-holds _ _ _ _ ys f),
   (
     answer-unfit (c .before .none-out .result) (c .unfit .ensures),
-    λ _. untouched _ _ _ _ (ap (λ n. refused n 0) (unfit-by (c .before .none-out .result) (c .unfit .ensures) (c .before .none-out .ensures))),
+    (λ ys a. spares-same _ _, λ _. ap (λ n. refused n 0) (unfit-by (c .before .none-out .result) (c .unfit .ensures) (c .before .none-out .ensures))),
   ),
 )
 
@@ -53,7 +54,7 @@ returns-2 c = (
   answer-stopped _ _ _ _ _ _ (c .before .check-answer .ensures) (c .if2 .taken),
   (
     answer-numbered _ _ _ (c .before .check-answer .ensures) (c .if2 .taken),
-    was-met (c .before .before .before .before .fits-cache .ensures) (c .before .before .before .if1 .left),
+    (λ ys a. spares-same _ _, was-met (c .before .before .before .before .fits-cache .ensures) (c .before .before .before .if1 .left)),
   ),
 )
 
@@ -73,12 +74,15 @@ same-length-9 : tie.Need-same-length-9
 same-length-9 c = search needs
 
 returns-3 : tie.Need-returns-3
-unfolding ofAnswer
+unfolding ofAnswer answeredOf
 returns-3 c = (
   answer-missing _ _ _ _ _ _ (c .before .before .before .before .before .before .before .before .before .before .before .before .check-answer .ensures) (c .before .before .before .before .before .before .before .before .before .before .before .if2 .left) (c .before .before .before .before .before .before .before .before .answer-resolved .ensures) (c .before .before .before .before .before .before .before .if3 .taken) _ _ _ (c .before .before .before .before .take-out .ensures),
   (
     refl,
-    was-met (c .before .before .before .before .before .before .before .before .before .before .before .before .before .before .before .fits-cache .ensures) (c .before .before .before .before .before .before .before .before .before .before .before .before .before .before .if1 .left),
+    (
+      λ ys a. spares-missing _ _ refl,
+      was-met (c .before .before .before .before .before .before .before .before .before .before .before .before .before .before .before .fits-cache .ensures) (c .before .before .before .before .before .before .before .before .before .before .before .before .before .before .if1 .left),
+    ),
   ),
 )
 
@@ -98,8 +102,11 @@ returns-4 : tie.Need-returns-4
 returns-4 c = (
   answer-weighed _ _ _ _ _ _ (c .before .before .before .before .before .before .before .before .before .before .before .before .before .before .before .check-answer .ensures) (c .before .before .before .before .before .before .before .before .before .before .before .before .before .before .if2 .left) (c .before .before .before .before .before .before .before .before .before .before .before .answer-resolved .ensures) (c .before .before .before .before .before .before .before .before .before .before .if3 .left) _ _ _ _ _ (c .before .before .before .before .before .before .weigh .ensures .0),
   (
-    c .before .before .before .before .before .before .weigh .ensures .1,
-    was-met (c .before .before .before .before .before .before .before .before .before .before .before .before .before .before .before .before .before .before .fits-cache .ensures) (c .before .before .before .before .before .before .before .before .before .before .before .before .before .before .before .before .before .if1 .left),
+    c .before .before .before .before .before .before .weigh .ensures .1 .0,
+    (
+      c .before .before .before .before .before .before .weigh .ensures .1 .1,
+      was-met (c .before .before .before .before .before .before .before .before .before .before .before .before .before .before .before .before .before .before .fits-cache .ensures) (c .before .before .before .before .before .before .before .before .before .before .before .before .before .before .before .before .before .if1 .left),
+    ),
   ),
 )
 

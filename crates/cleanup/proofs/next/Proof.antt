@@ -4,25 +4,35 @@ use native.Mathlib.Omega.{arith}
 use mathlib.Core.Path.{refl}
 use Rattle.pool_types.specs.Outcomes.{nextOf}
 use Rattle.entries.specs.Layout.{ok-room, ok-fewer}
+use Rattle.store.specs.Spares.{spares-same}
 use Rattle.cleanup.specs.Numbers.{ofNext}
-use Rattle.cleanup.specs.Laws.{untouched, only-state, next-closed, next-unfit, next-fits, next-again, next-found, next-ended}
+use Rattle.cleanup.specs.Laws.{only-state, spares-offered, spares-closed, next-closed, next-unfit, next-fits, next-again, next-found, next-ended}
 use Rattle.cleanup.proofs.next.Statement.{statement}
 use Rattle.cleanup.proofs.next.Tie as tie
 
 returns : tie.Need-returns
 unfolding ofNext nextOf
-returns c = (next-closed _ (c .if1 .taken) _, (refl, (refl, λ _. untouched _ _ _ _ (rw (c .if1 .taken)))))
+returns c = (next-closed _ (c .if1 .taken) _, (refl, (λ b k ys a. spares-same _ _, (λ _. rw (c .if1 .taken), refl))))
 
 entries-room-requires : tie.Need-entries-room-requires
 entries-room-requires c κs = search needs
 
 returns-2 : tie.Need-returns-2
 unfolding ofNext nextOf
-returns-2 c = (λ b k p f. next-unfit _ _ b k p (omega arith) f, (refl, (refl, λ _. untouched _ _ _ _ (rw (c .before .before .if1 .left)))))
+returns-2 c = (λ b k ys f. next-unfit _ _ b k ys (omega arith) f, (refl, (λ b k ys a. spares-same _ _, (λ _. rw (c .before .before .if1 .left), refl))))
 
 returns-3 : tie.Need-returns-3
 unfolding ofNext nextOf
-returns-3 c = (λ b k p f. next-again _ (c .before .before .before .before .if1 .left) (c .before .if3 .taken) _ b k p f refl, (refl, (refl, λ q. next-fits (c .before .before .before .before .before .before .before .before .args .mempool .counts .pooled) (c .before .before .before .entries-room .result) (c .before .before .before .entries-room .ensures) (omega arith) q)))
+returns-3 c = (
+  λ b k ys f. next-again _ (c .before .before .before .before .if1 .left) (c .before .if3 .taken) _ b k ys f refl,
+  (
+    refl,
+    (
+      λ b k ys a. spares-same _ _,
+      (λ q. next-fits (c .before .before .before .before .before .before .before .before .args .mempool .counts .pooled) (c .before .before .before .entries-room .result) (c .before .before .before .entries-room .ensures) (omega arith) q, refl),
+    ),
+  ),
+)
 
 first-due-requires : tie.Need-first-due-requires
 first-due-requires c κs = ok-room _ _ (omega arith)
@@ -45,13 +55,31 @@ end-pass-requires c κs = search needs
 returns-4 : tie.Need-returns-4
 returns-4 c = (
   next-found _ _ (c .before .before .before .before .before .before .before .before .before .if1 .left) (c .before .before .before .before .before .before .if3 .left) (c .before .before .before .before .before .first-due .ensures) _ _ (c .before .before .before .i .given .1) (c .before .id-at .ensures) (c .offer .ensures .0),
-  (c .offer .ensures .1, (only-state (c .offer .ensures .0), λ q. next-fits (c .before .before .before .before .before .before .before .before .before .before .before .before .before .args .mempool .counts .pooled) (c .before .before .before .before .before .before .before .before .entries-room .result) (c .before .before .before .before .before .before .before .before .entries-room .ensures) (omega arith) q)),
+  (
+    c .offer .ensures .1,
+    (
+      λ b k ys a. spares-offered _ _ _ (c .offer .ensures .0),
+      (
+        λ q. next-fits (c .before .before .before .before .before .before .before .before .before .before .before .before .before .args .mempool .counts .pooled) (c .before .before .before .before .before .before .before .before .entries-room .result) (c .before .before .before .before .before .before .before .before .entries-room .ensures) (omega arith) q,
+        only-state (c .offer .ensures .0),
+      ),
+    ),
+  ),
 )
 
 returns-5 : tie.Need-returns-5
 returns-5 c = (
   next-ended _ _ (c .before .before .before .before .before .before .before .if1 .left) (c .before .before .before .before .if3 .left) (c .before .before .before .first-due .ensures) (c .before .enum-told .given .1) (c .end-pass .ensures .0),
-  (c .end-pass .ensures .1, (only-state (c .end-pass .ensures .0), λ q. next-fits (c .before .before .before .before .before .before .before .before .before .before .before .args .mempool .counts .pooled) (c .before .before .before .before .before .before .entries-room .result) (c .before .before .before .before .before .before .entries-room .ensures) (omega arith) q)),
+  (
+    c .end-pass .ensures .1,
+    (
+      λ b k ys a. spares-closed _ _ (c .end-pass .ensures .0),
+      (
+        λ q. next-fits (c .before .before .before .before .before .before .before .before .before .before .before .args .mempool .counts .pooled) (c .before .before .before .before .before .before .entries-room .result) (c .before .before .before .before .before .before .entries-room .ensures) (omega arith) q,
+        only-state (c .end-pass .ensures .0),
+      ),
+    ),
+  ),
 )
 
 pub next-spec : {M : Type 1} → statement M

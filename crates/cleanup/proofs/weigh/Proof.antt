@@ -1,6 +1,8 @@
 -- `cleanup::weigh` meets its contract, verdict by verdict. Assumes nothing.
 use borrow.Author.Needs.{needs}
 use mathlib.Core.Path.{refl}
+use Rattle.pool_types.specs.Outcomes.{answeredOf}
+use Rattle.store.specs.Spares.{spares-same, spares-invalid, spares-valid}
 use Rattle.cleanup.specs.Numbers.{ofAnswer}
 use Rattle.cleanup.specs.Laws.{weigh-absent, weigh-valid, weigh-invalid, still-fits}
 use Rattle.cleanup.proofs.weigh.Statement.{statement}
@@ -26,7 +28,7 @@ stamp-requires c κs = search needs
 
 returns : tie.Need-returns
 unfolding ofAnswer
-returns c = (weigh-absent _ _ _ _ _ (c .enum-told .given .1), refl)
+returns c = (weigh-absent _ _ _ _ _ (c .enum-told .given .1), (refl, λ ys a. spares-same _ _))
 
 same-length : tie.Need-same-length
 same-length c = search needs
@@ -38,15 +40,15 @@ same-length-3 : tie.Need-same-length-3
 same-length-3 c = search needs
 
 returns-2 : tie.Need-returns-2
-unfolding ofAnswer
-returns-2 c = (weigh-invalid _ _ _ _ _ _ (c .before .before .before .before .before .before .before .before .before .remember .ensures) _ (c .before .before .before .before .before .before .before .before .before .before .before .enum-told2 .given .1) _ _ _ (c .before .before .before .before .take-out .ensures), refl)
+unfolding ofAnswer answeredOf
+returns-2 c = (weigh-invalid _ _ _ _ _ _ (c .before .before .before .before .before .before .before .before .before .remember .ensures) _ (c .before .before .before .before .before .before .before .before .before .before .before .enum-told2 .given .1) _ _ _ (c .before .before .before .before .take-out .ensures), (refl, λ ys a. spares-invalid _ _ refl))
 
 same-length-4 : tie.Need-same-length-4
 same-length-4 c = search needs
 
 returns-3 : tie.Need-returns-3
-unfolding ofAnswer
-returns-3 c = (weigh-valid _ _ _ _ _ _ (c .before .before .before .before .before .verdict .given .1) _ _ (c .before .before .stamp .ensures), refl)
+unfolding ofAnswer answeredOf
+returns-3 c = (weigh-valid _ _ _ _ _ _ (c .before .before .before .before .before .verdict .given .1) _ _ (c .before .before .stamp .ensures), (refl, λ ys a. spares-valid _ _ refl))
 
 pub weigh-spec : {M : Type 1} → statement M
 weigh-spec =

@@ -4,7 +4,9 @@ use borrow.Author.Needs.{needs}
 use mathlib.Core.Path.{refl, ap}
 use Rattle.pool_types.specs.Outcomes.{refused, invalidatedOf}
 use Rattle.returns.specs.Numbers.{ofInvalidation, invalidation-unfit}
-use Rattle.returns.specs.Laws.{met, was-met, not-met, untouched, cache-fits, cache-holds, invalidate-stopped, remember-asks, invalidate-done}
+use Rattle.store.specs.Fits.{met, was-met, not-met, cache-fits, cache-holds}
+use Rattle.store.specs.Spares.{spares-same, spares-done}
+use Rattle.returns.specs.Laws.{invalidate-stopped, remember-asks, invalidate-done}
 use Rattle.returns.proofs.invalidate.Statement.{statement}
 use Rattle.returns.proofs.invalidate.Tie as tie
 
@@ -26,10 +28,10 @@ same-length-3 c = refl
 returns : tie.Need-returns
 unfolding invalidatedOf
 returns c = (
-  λ p f. not-met (c .before .before .fits-cache .ensures) (c .before .if1 .taken) (cache-holds _ _ _ _ p f),
+  λ ys f. not-met (c .before .before .fits-cache .ensures) (c .before .if1 .taken) (cache-holds _ _ _ _ ys f),
   (
     invalidation-unfit (c .before .before .before .before .before .before .before .before .before .args .mempool .pass .open) (c .unfit .ensures),
-    λ _. untouched _ _ _ (ap (λ n. refused n 0) (c .unfit .ensures)),
+    (λ ys a. spares-same _ _, λ _. ap (λ n. refused n 0) (c .unfit .ensures)),
   ),
 )
 
@@ -48,7 +50,7 @@ returns-2 c = (
   invalidate-stopped _ _ _ _ _ _ (c .if2 .taken),
   (
     refl,
-    was-met (c .before .before .fits-cache .ensures) (c .before .if1 .left),
+    (λ ys a. spares-same _ _, was-met (c .before .before .fits-cache .ensures) (c .before .if1 .left)),
   ),
 )
 
@@ -70,12 +72,15 @@ same-length-9 : tie.Need-same-length-9
 same-length-9 c = c .before .before .remember .kept .0
 
 returns-3 : tie.Need-returns-3
-unfolding ofInvalidation
+unfolding ofInvalidation invalidatedOf
 returns-3 c = (
   invalidate-done _ _ _ _ _ _ _ _ _ (c .before .before .before .before .before .before .before .before .take-out .ensures) (c .before .before .before .before .before .before .before .before .before .before .before .if2 .left) _ _ (c .before .before .remember .ensures),
   (
     refl,
-    was-met (c .before .before .before .before .before .before .before .before .before .before .before .before .before .fits-cache .ensures) (c .before .before .before .before .before .before .before .before .before .before .before .before .if1 .left),
+    (
+      λ ys a. spares-done _ _ refl,
+      was-met (c .before .before .before .before .before .before .before .before .before .before .before .before .before .fits-cache .ensures) (c .before .before .before .before .before .before .before .before .before .before .before .before .if1 .left),
+    ),
   ),
 )
 

@@ -5,7 +5,9 @@ use mathlib.Core.Path.{refl, ap}
 use Rattle.pool_types.specs.Outcomes.{refused, returnedOf}
 use Rattle.pool.specs.Laws.{fits-true, fits-holds}
 use Rattle.returns.specs.Numbers.{ofReturn, return-numbered, return-unfit}
-use Rattle.returns.specs.Laws.{met, was-met, not-met, untouched, return-stopped, return-room, return-entered}
+use Rattle.store.specs.Fits.{met, was-met, not-met}
+use Rattle.store.specs.Spares.{spares-same, spares-done}
+use Rattle.returns.specs.Laws.{return-stopped, return-room, return-entered}
 use Rattle.returns.proofs.return_to_pool.Statement.{statement}
 use Rattle.returns.proofs.return_to_pool.Tie as tie
 
@@ -24,10 +26,10 @@ same-length-2 c = refl
 returns : tie.Need-returns
 unfolding returnedOf
 returns c = (
-  λ k p f. not-met (c .before .before .fits2 .ensures) (c .before .if1 .taken) (fits-holds _ _ _ (f .tests .pool)),
+  λ k ys f. not-met (c .before .before .fits2 .ensures) (c .before .if1 .taken) (fits-holds _ _ _ (f .tests .pool)),
   (
     return-unfit (c .before .before .before .before .before .before .before .before .before .before .args .mempool .pass .open) (c .unfit .ensures),
-    λ _. untouched _ _ _ (ap (λ n. refused n 0) (c .unfit .ensures)),
+    (λ k ys a. spares-same _ _, λ _. ap (λ n. refused n 0) (c .unfit .ensures)),
   ),
 )
 
@@ -45,7 +47,7 @@ returns-2 c = (
   return-stopped _ _ _ _ _ _ (c .before .check-return .ensures) (c .if2 .taken),
   (
     return-numbered _ _ _ _ _ _ _ (c .before .check-return .ensures) (c .if2 .taken),
-    was-met (c .before .before .before .before .before .fits2 .ensures) (c .before .before .before .before .if1 .left),
+    (λ k ys a. spares-same _ _, was-met (c .before .before .before .before .before .fits2 .ensures) (c .before .before .before .before .if1 .left)),
   ),
 )
 
@@ -62,12 +64,15 @@ same-length-6 : tie.Need-same-length-6
 same-length-6 c = c .before .before .before .before .enter .kept .1 .0
 
 returns-3 : tie.Need-returns-3
-unfolding ofReturn
+unfolding ofReturn returnedOf
 returns-3 c = (
   return-entered _ _ _ _ _ _ (c .before .before .before .before .before .before .before .before .before .before .check-return .ensures) (c .before .before .before .before .before .before .before .before .before .if2 .left) _ _ _ _ (c .before .before .before .before .before .before .before .returned-entry .ensures) (c .before .before .before .before .enter .ensures),
   (
     refl,
-    was-met (c .before .before .before .before .before .before .before .before .before .before .before .before .before .before .fits2 .ensures) (c .before .before .before .before .before .before .before .before .before .before .before .before .before .if1 .left),
+    (
+      λ k ys a. spares-done _ _ refl,
+      was-met (c .before .before .before .before .before .before .before .before .before .before .before .before .before .before .fits2 .ensures) (c .before .before .before .before .before .before .before .before .before .before .before .before .before .if1 .left),
+    ),
   ),
 )
 
