@@ -1,7 +1,1 @@
-pub mod Lent
-pub mod Flat
-pub mod Blocks
 pub mod Start
-pub mod Bills
-pub mod Post
-pub mod Promises

@@ -8,8 +8,7 @@ ghost use Rattle.words.specs.Sums.{cap};
 ghost use Rattle.peers.specs.Peers.{peersOf, standing, chargePeer, placeOf, usedAfter, chargedRecord, atLimit, noneFree};
 use words::sums::saturating_add;
 
-pub mod flat;
-
+#[repr(C)]
 pub struct PeerRecord {
     pub peer: u64,
     pub cost: u64,

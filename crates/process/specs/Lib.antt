@@ -1,5 +1,7 @@
 pub mod Process
 pub mod Edges
-pub mod Charge
+pub mod Bills
 pub mod Post
 pub mod Numbers
+pub mod Claims
+pub mod Promises

@@ -28,8 +28,6 @@ use Rattle.checks.specs.Checks.{dear, remote, first, callRefusal, peerRefusal, 
 use Rattle.admit.specs.Admit.{Admitted, loses, crowded, settled, seated, contested, admitSpec}
 use Rattle.store.specs.World.{World, Result, unchanged}
 use Rattle.process.specs.Process.{Limits, judged, unlessRefused, processed}
-use Rattle.process.specs.Post.{Post}
-use Rattle.process.specs.declared.Processed.{Processed}
 
 -- its refusals: all but 6, 11 and 21, which are of other calls
 abbrev pub refusals : List ℕ
@@ -169,9 +167,3 @@ pub unfit-ours : (t : Bool) {n : ℕ} → n ≡ pick t 20 1 → Ours (processedO
 unfolding ofSubmission processedOf
 unfit-ours true e = rw e
 unfit-ours false e = rw e
-
--- what is left as defined has an outcome of these
-pub claimed : {F : Type 0} {st : Mempool} {r : Processed} {e b k p a₀ a : List ℕ} (m : Limits) (w : World) (room : ℕ) (sub : Submission) (ins outs : List ℕ)
-    → Post st r e b k p a₀ a (processed m st w room sub ins outs)
-    → (F → Post st r e b k p a₀ a (processed m st w room sub ins outs)) × Ours (processedOf (r .outcome))
-claimed {st = st} m w room sub ins outs h = (λ _. h, ap ofSubmission (h .outcome) ∙ numbered m st w room sub ins outs)

@@ -16,6 +16,7 @@ pub const HISTOGRAM_BINS: usize = 60;
 // The window moves once more than this has passed since the snapshot, in milliseconds.
 pub const MEASUREMENT_INTERVAL: u64 = 60000;
 
+#[repr(C)]
 pub struct FeeStats {
     // Transactions confirmed after a wait of each minute, and the sums of their base weights.
     pub counts: [u64; 60],

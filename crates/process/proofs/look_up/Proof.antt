@@ -50,24 +50,24 @@ use Rattle.peers.proofs.PeerRecord as Pr
 use Rattle.peers.specs.declared.Standing.{Standing}
 use Rattle.peers.proofs.Standing as St
 use Rattle.peers.proofs.Standing.Laws as St′
-use Rattle.lent.specs.declared.submission.Sought.{Sought}
-use Rattle.lent.proofs.submission.Sought as Sg
-use Rattle.lent.proofs.submission.Sought.Laws as Sg′
+use Rattle.process.specs.declared.submission.Sought.{Sought}
+use Rattle.process.proofs.submission.Sought as Sg
+use Rattle.process.proofs.submission.Sought.Laws as Sg′
 use Prim.Native.Nat.{min}
 use Rattle.peers.specs.Peers.{peersOf, standing}
-use Rattle.lent.specs.Bills.{askedPeer, soughtOf}
-use Rattle.lent.proofs.submission.seek as seek
-use Rattle.lent.proofs.submission.seek.Symbol as seek-def
-use Rattle.lent.proofs.submission.seek.Symbol.{name as #lent·submission·seek}
-use Rattle.lent.proofs.submission.seek.Met as seek-thm
+use Rattle.process.specs.Bills.{askedPeer, soughtOf}
+use Rattle.process.proofs.submission.seek as seek
+use Rattle.process.proofs.submission.seek.Symbol as seek-def
+use Rattle.process.proofs.submission.seek.Symbol.{name as #process·submission·seek}
+use Rattle.process.proofs.submission.seek.Met as seek-thm
 use Rattle.peers.proofs.find_peer as find
 use Rattle.peers.proofs.find_peer.Symbol as find-def
 use Rattle.peers.proofs.find_peer.Symbol.{name as #peers·find-peer}
 use Rattle.peers.proofs.find_peer.Met as find-thm
-use Rattle.lent.proofs.look_up.Key.{name as #own}
-use Rattle.lent.proofs.look_up as f
-use Rattle.lent.proofs.look_up.Statement as stated
-use Rattle.lent.proofs.look_up.Code as code
+use Rattle.process.proofs.look_up.Key.{name as #own}
+use Rattle.process.proofs.look_up as f
+use Rattle.process.proofs.look_up.Statement as stated
+use Rattle.process.proofs.look_up.Code as code
 
 abbrev Arg : Type 0
 Arg = RefT (List PeerRecord) × (Mempool × (Submission × Unit {0}))
@@ -168,7 +168,7 @@ module _ {M : Type 1} (𝓤 : URA M) (H : Heap 𝓤) (A : Atoms 𝓤) (W : Given
       move ! (1 ∷ []) $ split ! $ split ! $ at-once ! $
       show ! (λ (r : Standing). mean 𝓤 H A (given (FindFacts s r) (‵ (flft κ₀ q₀) ⊛ ‵ (St.the-row .own r (v ∷ []))))) r $ check ! e₀ $ keep ! (0 ∷ 2 ∷ []) $ done !)))
 
-  module _ (C : Calls 𝓤 H) (Λ : Loops 𝓤 H) (fm : FmC 𝓤 H (W .laws) C) (known-seek : Triple 𝓤 (C #lent·submission·seek) (Seek 𝓤 H A at-mem run)) (known-find : Triple 𝓤 (C #peers·find-peer) (Find 𝓤 H A at-mem run)) where
+  module _ (C : Calls 𝓤 H) (Λ : Loops 𝓤 H) (fm : FmC 𝓤 H (W .laws) C) (known-seek : Triple 𝓤 (C #process·submission·seek) (Seek 𝓤 H A at-mem run)) (known-find : Triple 𝓤 (C #peers·find-peer) (Find 𝓤 H A at-mem run)) where
     abbrev params : List Val
     params = sliceVal (b₀, o₀) (length ys) ∷ LL.val Mp.the-type Mp′.the-laws st ∷ LL.val Sb.the-type Sb′.the-laws w ∷ []
 
@@ -197,7 +197,7 @@ module _ {M : Type 1} (𝓤 : URA M) (H : Heap 𝓤) (A : Atoms 𝓤) (W : Given
         keep ! (1 ∷ 2 ∷ 0 ∷ []) $ by ! (exits v₂ g (found-is st w ys s g h₁ h₂))))))))))))))))
 
 module _ {M : Type 1} (𝓤 : URA M) (H : Heap 𝓤) (A : Atoms 𝓤) (W : Given 𝓤 H A) (at-mem : Memory → SProp 𝓤) (run : Routine → Fun 𝓤) where
-  walks : (C : Calls 𝓤 H) (Λ : Loops 𝓤 H) → FmC 𝓤 H (W .laws) C → Triple 𝓤 (C #lent·submission·seek) (Seek 𝓤 H A at-mem run) → Triple 𝓤 (C #peers·find-peer) (Find 𝓤 H A at-mem run) → Walks 𝓤 H A f.ended stayed (WpFn 𝓤 H C Λ code.function) (f.clauses 𝓤 H A at-mem run)
+  walks : (C : Calls 𝓤 H) (Λ : Loops 𝓤 H) → FmC 𝓤 H (W .laws) C → Triple 𝓤 (C #process·submission·seek) (Seek 𝓤 H A at-mem run) → Triple 𝓤 (C #peers·find-peer) (Find 𝓤 H A at-mem run) → Walks 𝓤 H A f.ended stayed (WpFn 𝓤 H C Λ code.function) (f.clauses 𝓤 H A at-mem run)
   walks C Λ fm k₀ k₁ = walked 𝓤 H A f.ended stayed (f.clauses 𝓤 H A at-mem run) (WpFn 𝓤 H C Λ code.function)
       (λ κs. (slice-vals, (LL.vals Mp.the-type Mp′.the-laws, (LL.vals Sb.the-type Sb′.the-laws, tt))))
       (λ κs. (shr-slice-tells (named 0) (κs .0) Pr.the-row, (LL.tells Mp.the-type Mp′.the-laws, (LL.tells Sb.the-type Sb′.the-laws, tt))))
@@ -207,7 +207,7 @@ module _ {M : Type 1} (𝓤 : URA M) (H : Heap 𝓤) (A : Atoms 𝓤) (W : Given
   goes = (goes-none-slice 𝓤 H A W 1 (0 ∷ []) tt (plain (λ _. Pr.the-row)) yes, (goes-none 𝓤 H A W 1 (λ _. Mp.the-row) yes (λ κs x f. refl), (goes-none 𝓤 H A W 1 (λ _. Sb.the-row) yes (λ κs x f. refl), tt)))
 
 meets : {M : Type 1} (𝓤 : URA M) (H : Heap 𝓤) (A : Atoms 𝓤) (W : Given 𝓤 H A) (at-mem : Memory → SProp 𝓤) (run : Routine → Fun 𝓤) (𝓣 : Tables 𝓤 H)
-    → Triple 𝓤 (𝓣 .C #lent·submission·seek) (Seek 𝓤 H A at-mem run) → Triple 𝓤 (𝓣 .C #peers·find-peer) (Find 𝓤 H A at-mem run)
+    → Triple 𝓤 (𝓣 .C #process·submission·seek) (Seek 𝓤 H A at-mem run) → Triple 𝓤 (𝓣 .C #peers·find-peer) (Find 𝓤 H A at-mem run)
     → Meets 𝓤 H A f.signature (WpFn 𝓤 H (𝓣 .C) (𝓣 .Λ) code.function) (f.spec 𝓤 H A at-mem run)
 meets 𝓤 H A W at-mem run 𝓣 k₀ k₁ =
     walk-meets 𝓤 H A f.ended stayed W (goes 𝓤 H A W at-mem run) (f.clauses 𝓤 H A at-mem run)
@@ -219,5 +219,5 @@ look-up-spec 𝓤 H 𝓜 𝓖 𝓡 =
     entered 𝓤 H (tripleOf 𝓤 H (𝓖 .A) f.signature (f.spec 𝓤 H (𝓖 .A) (𝓜 .mem) (𝓡 .run)))
     (tables 𝓤 H 𝓜 𝓡 code.env .C) (tables 𝓤 H 𝓜 𝓡 code.env .Λ) #own code.function (code.unfolded 𝓤 H 𝓜 𝓡)
     (meets 𝓤 H (𝓖 .A) (givenOf 𝓤 H 𝓜 𝓖) (𝓜 .mem) (𝓡 .run) (tablesOf 𝓤 H 𝓜 (tables 𝓤 H 𝓜 𝓡 code.env))
-    (cited 𝓤 H (Seek 𝓤 H (𝓖 .A) (𝓜 .mem) (𝓡 .run)) 𝓜 𝓡 code.env #lent·submission·seek seek-def.routine code.calls-lent·submission·seek (seek-thm.met 𝓤 H 𝓜 𝓖 𝓡))
+    (cited 𝓤 H (Seek 𝓤 H (𝓖 .A) (𝓜 .mem) (𝓡 .run)) 𝓜 𝓡 code.env #process·submission·seek seek-def.routine code.calls-process·submission·seek (seek-thm.met 𝓤 H 𝓜 𝓖 𝓡))
     (cited 𝓤 H (Find 𝓤 H (𝓖 .A) (𝓜 .mem) (𝓡 .run)) 𝓜 𝓡 code.env #peers·find-peer find-def.routine code.calls-peers·find-peer (find-thm.met 𝓤 H 𝓜 𝓖 𝓡)))

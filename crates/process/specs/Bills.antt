@@ -19,10 +19,10 @@ use Rattle.peers.specs.declared.Standing.{Standing}
 use Rattle.peers.specs.declared.Standing.the-variants.{Free}
 use Rattle.checks.specs.Checks.{remote}
 use Rattle.admit.specs.Admit.{chargedSum}
 use Rattle.process.specs.Process.{standingOf, chargedPeers}
-use Rattle.lent.specs.declared.submission.Sought.{Sought}
-use Rattle.lent.specs.declared.submission.Due.{Due}
-use Rattle.lent.specs.declared.submission.Bill.{Bill}
+use Rattle.process.specs.declared.submission.Sought.{Sought}
+use Rattle.process.specs.declared.submission.Due.{Due}
+use Rattle.process.specs.declared.submission.Bill.{Bill}
 
 -- ---- whom to look for
 

@@ -1,9 +1,9 @@
 -- `judge` meets its contract: one law for each verdict. Assumes nothing.
 use Rattle.process.specs.Post.{judged-valid}
-use Rattle.lent.specs.Post.{claims-as, claims-absent, claims-invalid}
+use Rattle.process.specs.Claims.{claims-as, claims-absent, claims-invalid}
 use borrow.Author.Needs.{needs}
-use Rattle.lent.proofs.submission.judge.Statement.{statement}
-use Rattle.lent.proofs.submission.judge.Tie as tie
+use Rattle.process.proofs.submission.judge.Statement.{statement}
+use Rattle.process.proofs.submission.judge.Tie as tie
 
 enum-told : tie.Need-enum-told
 enum-told c = search needs

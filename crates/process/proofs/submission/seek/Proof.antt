@@ -1,8 +1,8 @@
 -- `seek` meets its contract: a peer is looked for, or no one. Assumes nothing.
 
 use borrow.Author.Needs.{needs}
-use Rattle.lent.proofs.submission.seek.Statement.{statement}
-use Rattle.lent.proofs.submission.seek.Tie as tie
+use Rattle.process.proofs.submission.seek.Statement.{statement}
+use Rattle.process.proofs.submission.seek.Tie as tie
 
 smaller-requires : tie.Need-smaller-requires
 smaller-requires c κs = search needs

@@ -2,31 +2,32 @@
 use admit::admission::admit;
 use admit::admission::cost_of;
 use checks::check;
-use expiring_cache::cache_room;
 use expiring_cache::insert;
 use peers::Standing;
-use pool::fits;
 use pool_types::Mempool;
 use pool_types::ProcessingOutcome;
 use pool_types::Source;
 use pool_types::Submission;
 use pool_types::Sums;
 use pool_types::Verdict;
+use store::fits_all;
 use store::unfit;
 use words::sums::saturating_add;
 ghost use mathlib.Core.Path.{_≡_};
 ghost use mathlib.Core.List.{List};
-ghost use Prim.Native.Nat.{ℕ, _≤_, _/_, max, min};
+ghost use Prim.Native.Nat.{ℕ, _≤_, _/_, min};
 ghost use lib.ListN.{length};
 ghost use Rattle.peers.specs.Peers.{peersOf, standing};
 ghost use Rattle.peers.specs.declared.PeerRecord.{PeerRecord};
 ghost use Rattle.pool.specs.Pool.{tablesOf};
 ghost use Rattle.checks.specs.Passed.{Passed};
 ghost use Rattle.admit.specs.Admit.{admitSpec};
 ghost use Rattle.process.specs.Process.{standingOf, admitted, judged};
-ghost use Rattle.lent.specs.Lent.{Ready, lentFit, lentWorld, LentFits};
-ghost use Rattle.lent.specs.Bills.{soughtOf, askedPeer, noDue, billOf, standingFor};
-ghost use Rattle.lent.specs.Post.{Claims, Offers, lentResult};
+ghost use Rattle.store.specs.World.{worldOf};
+ghost use Rattle.store.specs.Fits.{Fits};
+ghost use Rattle.process.specs.Bills.{soughtOf, askedPeer, noDue, billOf, standingFor};
+ghost use Rattle.process.specs.Post.{resultOf};
+ghost use Rattle.process.specs.Claims.{Ready, Claims, Offers};
 
 // Which peer is to be looked for, among how many records.
 pub struct Sought {
@@ -124,42 +125,6 @@ fn charged(sums: Sums, source: Source, standing: Standing, cost: u64) -> Bill
     }
 }
 
-// ---- the tests
-
-// A cache holds at least one id.
-fn at_least_one(capacity: usize) -> usize
-    ensures { λ r. ⌜ r ≡ max capacity 1 ⌝ }
-{
-    if capacity == 0 { 1 } else { capacity }
-}
-
-// Whether the counts fit what is lent.
-fn fits_lent(
-    entries: &[u64],
-    boxes: &[u64],
-    cache: &[u64],
-    records: usize,
-    mempool: Mempool,
-) -> bool
-    ensures { λ r. ⌜ r ≡ lentFit (now (entries .entry)) (now (boxes .entry)) (now (cache .entry)) records mempool ⌝ }
-{
-    let counts = mempool.counts;
-    if !fits(entries, boxes, counts) {
-        return false;
-    }
-    let room = cache_room(cache);
-    if room < mempool.cached {
-        return false;
-    }
-    if room < at_least_one(mempool.config.invalidation_capacity) {
-        return false;
-    }
-    if records < 256 {
-        return false;
-    }
-    mempool.sums.peers <= 256
-}
-
 // ---- the verdict
 
 // A valid verdict: the charge stands, whatever the admission comes to.
@@ -176,11 +141,11 @@ fn valid(
 ) -> Submitted
     requires { ⌜ mempool .sums .peers ≤ 256 ⌝ }
     requires { ⌜ Passed 5000 (now entries) (now boxes) mempool (length (now answer) / 4) standing sub (now inputs) (now outputs) ⌝ }
-    ensures { λ r. ⌜ ((k : List ℕ) (ys : List PeerRecord) → LentFits (now (entries .entry)) (now (boxes .entry)) k ys mempool →
+    ensures { λ r. ⌜ ((k : List ℕ) (ys : List PeerRecord) → Fits (now (entries .entry)) (now (boxes .entry)) k ys mempool →
         standing ≡ standingOf (sub .source) (peersOf ys (mempool .sums .peers)) →
-        Claims mempool r (now (entries .exit)) (now (boxes .exit)) k ys (now (answer .entry)) (now (answer .exit))
+        Claims (now (entries .entry)) (now (boxes .entry)) k mempool r (now (entries .exit)) (now (boxes .exit)) k ys (now (answer .entry)) (now (answer .exit))
         (admitted (admitSpec 500 (mempool .config) (tablesOf (now (entries .entry)) (now (boxes .entry)) (mempool .counts)) sub cost (now (inputs .entry)) (now (outputs .entry)))
-        (lentWorld (now (entries .entry)) (now (boxes .entry)) k ys mempool) sub cost)) ⌝ }
+        (worldOf (now (entries .entry)) (now (boxes .entry)) k ys mempool) sub cost)) ⌝ }
 {
     let source = sub.source;
     let before = mempool.sums;
@@ -227,10 +192,10 @@ fn judge(
 ) -> Submitted
     requires { ⌜ Ready (now entries) (now boxes) (now cache) mempool ⌝ }
     requires { ⌜ Passed 5000 (now entries) (now boxes) mempool (length (now answer) / 4) standing sub (now inputs) (now outputs) ⌝ }
-    ensures { λ r. ⌜ ((ys : List PeerRecord) → LentFits (now (entries .entry)) (now (boxes .entry)) (now (cache .entry)) ys mempool →
+    ensures { λ r. ⌜ ((ys : List PeerRecord) → Fits (now (entries .entry)) (now (boxes .entry)) (now (cache .entry)) ys mempool →
         standing ≡ standingOf (sub .source) (peersOf ys (mempool .sums .peers)) →
-        Claims mempool r (now (entries .exit)) (now (boxes .exit)) (now (cache .exit)) ys (now (answer .entry)) (now (answer .exit))
-        (judged 500 mempool (lentWorld (now (entries .entry)) (now (boxes .entry)) (now (cache .entry)) ys mempool) sub (now (inputs .entry)) (now (outputs .entry)) (sub .verdict))) ⌝ }
+        Claims (now (entries .entry)) (now (boxes .entry)) (now (cache .entry)) mempool r (now (entries .exit)) (now (boxes .exit)) (now (cache .exit)) ys (now (answer .entry)) (now (answer .exit))
+        (judged 500 mempool (worldOf (now (entries .entry)) (now (boxes .entry)) (now (cache .entry)) ys mempool) sub (now (inputs .entry)) (now (outputs .entry)) (sub .verdict))) ⌝ }
 {
     let verdict = sub.verdict;
     match verdict {
@@ -284,9 +249,9 @@ pub fn submit(
 ) -> Submitted
     ensures { λ r. ⌜ ((ys : List PeerRecord) → length ys ≡ records → found ≡ standing (peersOf ys (min (mempool .sums .peers) records)) (askedPeer (sub .source)) →
         Offers (now (entries .entry)) (now (boxes .entry)) (now (cache .entry)) mempool r (now (entries .exit)) (now (boxes .exit)) (now (cache .exit)) ys (now (answer .entry)) (now (answer .exit))
-        (lentResult (now (entries .entry)) (now (boxes .entry)) (now (cache .entry)) ys (now (answer .entry)) mempool sub (now (inputs .entry)) (now (outputs .entry)))) ⌝ }
+        (resultOf (now (entries .entry)) (now (boxes .entry)) (now (cache .entry)) ys (now (answer .entry)) mempool sub (now (inputs .entry)) (now (outputs .entry)))) ⌝ }
 {
-    if !fits_lent(entries, boxes, cache, records, mempool) {
+    if !fits_all(entries, boxes, cache, records, mempool) {
         return Submitted {
             mempool,
             outcome: ProcessingOutcome::Declined(unfit(mempool.pass.open)),

@@ -1,8 +1,8 @@
 -- `charged` meets its contract: nothing is due from a local submission, a remote one is charged. Assumes nothing.
 
 use borrow.Author.Needs.{needs}
-use Rattle.lent.proofs.submission.charged.Statement.{statement}
-use Rattle.lent.proofs.submission.charged.Tie as tie
+use Rattle.process.proofs.submission.charged.Statement.{statement}
+use Rattle.process.proofs.submission.charged.Tie as tie
 
 enum-told : tie.Need-enum-told
 enum-told c = search needs

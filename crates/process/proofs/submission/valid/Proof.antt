@@ -1,8 +1,8 @@
 -- `valid` meets its contract: the bill and the admission stand beside each other. Assumes nothing.
-use Rattle.lent.specs.Post.{claims-valid, bills}
+use Rattle.process.specs.Claims.{claims-valid, bills}
 use borrow.Author.Needs.{needs}
-use Rattle.lent.proofs.submission.valid.Statement.{statement}
-use Rattle.lent.proofs.submission.valid.Tie as tie
+use Rattle.process.proofs.submission.valid.Statement.{statement}
+use Rattle.process.proofs.submission.valid.Tie as tie
 
 cost-of-requires : tie.Need-cost-of-requires
 cost-of-requires c κs = search needs
