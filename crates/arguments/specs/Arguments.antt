@@ -25,6 +25,10 @@ field W j l i = getD l (i * W + j) 0
 abbrev pub flagged : ℕ → Bool
 flagged w = not (eqb w 0)
 
+-- refusal 7: "more than 5,000 inputs"
+abbrev pub maxInputs : ℕ
+maxInputs = 5000
+
 -- ---- "Fee = sum of flagged values": an output of a submission has 7 words, its value at 4, its fee flag at 5
 
 abbrev pub feeAt : List ℕ → ℕ → ℕ

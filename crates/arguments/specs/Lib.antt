@@ -1,2 +1,3 @@
 pub mod Arguments
 pub mod Laws
+pub mod Heights

@@ -7,9 +7,10 @@ use pool_types::ListOutcome;
 use pool_types::Mempool;
 use words::ids::Id;
 use words::ids::put_id;
+use words::sums::smaller;
 ghost use mathlib.Core.Path.{_≡_};
 ghost use mathlib.Core.List.{map};
-ghost use Prim.Native.Nat.{ℕ, _+_, _*_, _≤_, min};
+ghost use Prim.Native.Nat.{ℕ, _+_, _*_, _≤_};
 ghost use lib.ListN.{length, take, drop, set};
 ghost use Rattle.words.specs.Rows.{stored};
 ghost use Rattle.entries.specs.Layout.{EntriesOk, entryAt, entriesOf};
@@ -47,12 +48,6 @@ fn list_entries(entries: &[u64], answer: &mut [u64], k: usize)
         list_entry(entries, answer, i);
         i += 1;
     }
-}
-
-fn smaller(a: usize, b: usize) -> usize
-    ensures { λ r. ⌜ r ≡ min a b ⌝ }
-{
-    if a < b { a } else { b }
 }
 
 // The first `limit` transactions by priority: id, weight and base of each.

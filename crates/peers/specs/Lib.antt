@@ -1,3 +1,4 @@
 pub mod Peers
 pub mod Laws
 pub mod Flat
+pub mod Refusals

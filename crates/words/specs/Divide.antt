@@ -1,11 +1,11 @@
 -- Long division, some bits at a time from the highest: what is left after a step, with the next bits behind it, is all that is divided next.
 -- One law, over every base, serves every quotient.
-use Prim.Native.Nat.{ℕ, _+_, _-_, _*_, _/_, _%_, _^_, _≤_, _<_}
+use Prim.Native.Nat.{ℕ, _+_, _-_, _*_, _/_, _%_, _^_, _≤_, _<_, min}
 use mathlib.Core.Path.{_≡_, sym, ap, _∙_}
 use native.Mathlib.Nat.{add-assoc, add-mul, mul-right-comm, div-add-mod', mul-add-div-right, mul-add-mod-self-right, mod-lt, zero-div, zero-mod, div-one, div-eq-of-lt, mod-eq-of-lt, div-eq-sub-div, mod-eq-sub-mod, div-mul-le-self, le-div-iff-mul-le, div-lt-iff-lt-mul, le-trans, lt-of-lt-of-le, lt-of-le-of-lt, mul-le-mul-left, le-add-right}
 use native.Mathlib.Omega.{arith}
 use lib.Arith.{digits-lt}
-use lib.Pow.{pow-pos, pow-mono, split, shr-shr, shr-le}
+use lib.Pow.{pow-pos, pow-mono, split, shr-shr, shr-le, shr-mod}
 use Rattle.words.specs.Wide.{wideOf}
 use Rattle.words.specs.declared.wide.Wide.{Wide}
 use Rattle.words.specs.declared.wide.Part.{Part}
@@ -43,12 +43,16 @@ pub record Length (n r : ℕ) : Type 0 where
   pub least : 2 ^ r ≤ 2 * n + 1
   pub room : r ≤ 128
 
+-- the first step ends 64 bits below, or at bit 0
+pub first-within : {n r : ℕ} → Length n r → (m : ℕ) → m ≡ min r 64 → n < 2 ^ (64 + (r - m))
+first-within k m e = lt-of-lt-of-le (k .below) (pow-mono (omega arith))
+
 -- a step of s bits serves the divisor d: a number below d with s bits behind it fits a word, or the step is one bit
 pub record Serves (d s : ℕ) : Type 0 where
   pub some : 0 < s
   pub few : s < 64
-  pub room : d < 2 ^ 63 → d * 2 ^ s ≤ 2 ^ 64
-  pub one : 2 ^ 63 ≤ d → s ≡ 1
+  pub room : d < 2 ^ 32 → d * 2 ^ s ≤ 2 ^ 64
+  pub one : 2 ^ 32 ≤ d → s ≡ 1
 
 -- and so does a shorter one
 pub serves-less : {d m s : ℕ} → Serves d m → 0 < s → s ≤ m → Serves d s
@@ -94,10 +98,10 @@ module _ (n d at s : ℕ) (pos : 0 < d) where
     fits = rw part-step (lt-of-le-of-lt (le-div-iff-mul-le pos .1 (le-trans (div-mul-le-self (n / 2 ^ at) d) (shr-le n at))) h);
   }
 
--- before the first step, and after the last
-pub part-none : (n d at : ℕ) → n < 2 ^ at → partOf n d at ≡ record { quotient = 0; rest = 0 }
+-- after the first step, of a whole word, and after the last
+pub part-first : (n d at : ℕ) → n < 2 ^ (64 + at) → record { quotient = n / 2 ^ at % 2 ^ 64 / d; rest = n / 2 ^ at % 2 ^ 64 % d } ≡ partOf n d at
 unfolding partOf
-part-none n d at h = rw (div-eq-of-lt h, zero-div d, zero-mod d)
+part-first n d at h = rw (shr-mod 64 at h)
 
 pub part-all : (n d : ℕ) → partOf n d 0 .quotient ≡ n / d
 unfolding partOf
@@ -107,7 +111,7 @@ part-all n d = ap (λ (x : ℕ). x / d) (div-one n)
 
 module _ (t : Part) (g d s : ℕ) (k : Ready t g d s) where
   -- within a word: nothing is shifted out
-  module _ (h : d < 2 ^ 63) where
+  module _ (h : d < 2 ^ 32) where
     pub word-fits : t .rest * 2 ^ s + g < 2 ^ 64
     word-fits = lt-of-lt-of-le (digits-lt (k .left) (k .digit)) (k .serves .room h)
 
@@ -122,7 +126,7 @@ module _ (t : Part) (g d s : ℕ) (k : Ready t g d s) where
     quotient-kept = mod-eq-of-lt (lt-of-le-of-lt (le-add-right (t .quotient * 2 ^ s) ((t .rest * 2 ^ s + g) / d)) quotient-fits)
 
   -- by one bit: the quotient's digit is 0 or 1
-  module _ (h : 2 ^ 63 ≤ d) where
+  module _ (h : 2 ^ 32 ≤ d) where
     pub bit-digit : g < 2
     bit-digit = rw (k .serves .one h) at (k .digit)
 

@@ -15,7 +15,8 @@ pub struct Id {
     pub d: u64,
 }
 
-fn get_id(s: &[u64], at: usize) -> Id
+// The four words from index `at`.
+pub fn get_id(s: &[u64], at: usize) -> Id
     requires { ⌜ at + 4 ≤ length (now s) ⌝ }
     ensures { λ r. ⌜ r ≡ wordsAt (now (s .entry)) at ⌝ }
 {
@@ -27,7 +28,7 @@ fn get_id(s: &[u64], at: usize) -> Id
     }
 }
 
-// The id in the four words from index `at`.
+// Likewise, where the id's number is all that counts.
 pub fn load_id(s: &[u64], at: usize) -> Id
     requires { ⌜ at + 4 ≤ length (now s) ⌝ }
     ensures { λ r. ⌜ idOf r ≡ idAt (now (s .entry)) at ⌝ }

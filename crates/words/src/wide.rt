@@ -3,13 +3,10 @@ ghost use mathlib.Core.Path.{_≡_};
 ghost use Prim.Native.Nat.{_+_, _*_, _/_, _%_, _^_, _<_, min};
 ghost use Rattle.words.specs.Sums.{quotientOf};
 ghost use Rattle.words.specs.Wide.{wideOf};
-ghost use Rattle.words.specs.Divide.{Length, Serves, Ready, stepped};
+ghost use Rattle.words.specs.Divide.{Length, Serves, Ready, partOf, stepped};
 
 // Half a word has 32 bits.
 const HALF: u64 = 0x1_0000_0000;
-
-// The highest bit of a word.
-const TOP: u64 = 0x8000_0000_0000_0000;
 
 pub struct Wide {
     pub high: u64,
@@ -75,15 +72,12 @@ fn bits(w: Wide) -> u32
     64 - u64::leading_zeros(w.low)
 }
 
-// How many bits a step may take: what is left is below d, and with so many bits behind it, it still fits a word.
+// How many bits a step takes after the first: what is left is below d, and with half a word behind it, it still fits a word. A divisor that
+// is no half word leaves no such room, and each bit is a step.
 fn step_bits(d: u64) -> u32
-    requires { ⌜ 0 < d ⌝ }
     ensures { λ r. ⌜ Serves d r ⌝ }
 {
-    if d < TOP {
-        return u64::leading_zeros(d);
-    }
-    1
+    if d < HALF { 32 } else { 1 }
 }
 
 // The 64 bits of w from bit `at` up.
@@ -100,13 +94,25 @@ fn word_at(w: Wide, at: u32) -> u64
     w.high >> (at - 64)
 }
 
-// Divides what is left with `size` bits more behind it. For a divisor of 64 bits that is one bit, and twice what is left and the bit reach
-// d exactly if what is left and the bit reach the gap.
+// The first step, down to bit `at`: nothing is left from before, so that it takes as many bits as a word has.
+fn first_step(w: Wide, d: u64, at: u32) -> Part
+    requires { ⌜ (0 < d) × (at < 128) × (wideOf w < 2 ^ (64 + at)) ⌝ }
+    ensures { λ r. ⌜ r ≡ partOf (wideOf w) d at ⌝ }
+{
+    let top = word_at(w, at);
+    Part {
+        quotient: top / d,
+        rest: top % d,
+    }
+}
+
+// Divides what is left with `size` bits more behind it. For a divisor of more than half a word that is one bit, and twice what is left and the
+// bit reach d exactly if what is left and the bit reach the gap.
 fn step(t: Part, digit: u64, d: u64, size: u32) -> Part
     requires { ⌜ Ready t digit d size ⌝ }
     ensures { λ r. ⌜ r ≡ stepped t digit d size ⌝ }
 {
-    if d < TOP {
+    if d < HALF {
         let n = (t.rest << size) + digit;
         return Part {
             quotient: (t.quotient << size) + n / d,
@@ -127,17 +133,16 @@ fn step(t: Part, digit: u64, d: u64, size: u32) -> Part
     }
 }
 
-// The division starts at the highest one bit: the leading zeros of the high or the low word fix the number of steps.
+// The division starts at the highest one bit: the leading zeros of the high or the low word fix the number of steps. The first takes 64 bits,
+// or what there is; each other takes 32, or one for a divisor of more.
 fn divide(w: Wide, d: u64) -> u64
     requires { ⌜ w .high < d ⌝ }
     ensures { λ r. ⌜ r ≡ wideOf w / d ⌝ }
 {
     let most = step_bits(d);
     let mut at = bits(w);
-    let mut t = Part {
-        quotient: 0,
-        rest: 0,
-    };
+    at -= smaller(at, 64);
+    let mut t = first_step(w, d, at);
     while 0 < at {
         let size = smaller(at, most);
         at -= size;

@@ -8,12 +8,12 @@ use lib.Dec.{lit<}
 use lib.Pow.{pow-pos, shl-exact, mod-mod-pow}
 use Rattle.words.specs.declared.wide.Part.{Part}
 use Rattle.words.specs.Wide.{wideOf}
-use Rattle.words.specs.Divide.{fits-word, Serves, serves-less, Ready, stepped, partOf, part-none, part-all, part-step, part-ready}
+use Rattle.words.specs.Divide.{fits-word, Serves, serves-less, Ready, stepped, partOf, first-within, part-all, part-step, part-ready}
 use Rattle.words.proofs.wide.divide.Statement.{statement}
 use Rattle.words.proofs.wide.divide.Tie as tie
 
 abbrev Inv-loop : tie.InvT-loop
-Inv-loop w d most at₀ t₀ at t = (at ≤ 128) × (t ≡ partOf (wideOf w) d at)
+Inv-loop w d most at₀ t₀ at t = (at ≤ 64) × (t ≡ partOf (wideOf w) d at)
 
 abbrev μ-loop : tie.MeasureT-loop
 μ-loop w d most at₀ t₀ at t = at
@@ -43,20 +43,29 @@ step-bits-requires c κs = omega arith
 bits-requires : tie.Need-bits-requires Inv-loop μ-loop
 bits-requires c κs = tt
 
-loop-holds : tie.Need-loop-holds Inv-loop μ-loop
-loop-holds c = (c .bits .ensures .room, sym (part-none (wideOf (c .before .before .args .w)) (c .before .before .args .d) (c .bits .result) (c .bits .ensures .below)))
-
 smaller-requires : tie.Need-smaller-requires Inv-loop μ-loop
 smaller-requires c κs = tt
 
 sub-at : tie.Need-sub-at Inv-loop μ-loop
 sub-at c = omega arith
 
+first-step-requires : tie.Need-first-step-requires Inv-loop μ-loop
+first-step-requires c κs = (omega arith, omega (arith, c .before .bits .ensures .room), first-within (c .before .bits .ensures) (c .smaller .result) (c .smaller .ensures))
+
+loop-holds : tie.Need-loop-holds Inv-loop μ-loop
+loop-holds c = (omega (arith, c .before .before .bits .ensures .room), c .first-step .ensures)
+
+smaller-requires-2 : tie.Need-smaller-requires-2 Inv-loop μ-loop
+smaller-requires-2 c κs = tt
+
+sub-at-2 : tie.Need-sub-at-2 Inv-loop μ-loop
+sub-at-2 c = omega arith
+
 word-at-requires : tie.Need-word-at-requires Inv-loop μ-loop
 word-at-requires c κs = omega arith
 
-serves : (c : tie.After-smaller Inv-loop μ-loop) → Serves (c .before .before .before .before .before .args .d) (c .smaller .result)
-serves c = serves-less (c .before .before .before .before .step-bits .ensures) (omega arith) (omega arith)
+serves : (c : tie.After-smaller2 Inv-loop μ-loop) → Serves (c .before .before .before .before .before .before .before .args .d) (c .smaller2 .result)
+serves c = serves-less (c .before .before .before .before .before .before .step-bits .ensures) (omega arith) (omega arith)
 
 cast-step : tie.Need-cast-step Inv-loop μ-loop
 cast-step c = omega (arith, serves (c .before) .few)
@@ -65,13 +74,13 @@ shl-step : tie.Need-shl-step Inv-loop μ-loop
 shl-step c = serves (c .before) .few
 
 rem-step : tie.Need-rem-step Inv-loop μ-loop
-rem-step c = rw (base (c .before .smaller .result) (serves (c .before) .few)) (pow-pos (c .before .smaller .result))
+rem-step c = rw (base (c .before .smaller2 .result) (serves (c .before) .few)) (pow-pos (c .before .smaller2 .result))
 
 step-requires : tie.Need-step-requires Inv-loop μ-loop
 step-requires c κs =
-    let a = c .before .before .before .before .before .before in
+    let a = c .before .before .before .before .before .before .before .before in
     let l = c .before .before .before .loop in
-    turn-ready (wideOf (a .args .w)) (a .args .d) (l .at) (c .before .smaller .result) (c .word-at .result) (l .t) (omega arith) (serves (c .before)) (omega arith) (c .word-at .ensures) (l .inv .1)
+    turn-ready (wideOf (a .args .w)) (a .args .d) (l .at) (c .before .smaller2 .result) (c .word-at .result) (l .t) (omega arith) (serves (c .before)) (omega arith) (c .word-at .ensures) (l .inv .1)
     (fits-word (a .args .w) (a .pre) (omega arith))
 
 loop-less : tie.Need-loop-less Inv-loop μ-loop
@@ -79,16 +88,16 @@ loop-less c = omega arith
 
 loop-again : tie.Need-loop-again Inv-loop μ-loop
 loop-again c =
-    let a = c .before .before .before .before .before .before .before .args in
+    let a = c .before .before .before .before .before .before .before .before .before .args in
     let l = c .before .before .before .before .loop in (
       omega arith,
       c .step .ensures
-          ∙ turn-done (wideOf (a .w)) (a .d) (l .at) (c .before .before .smaller .result) (c .before .word-at .result) (l .t) (omega arith) (serves (c .before .before)) (omega arith) (c .before .word-at .ensures) (l .inv .1),
+          ∙ turn-done (wideOf (a .w)) (a .d) (l .at) (c .before .before .smaller2 .result) (c .before .word-at .result) (l .t) (omega arith) (serves (c .before .before)) (omega arith) (c .before .word-at .ensures) (l .inv .1),
     )
 
 returns : tie.Need-returns Inv-loop μ-loop
 returns c =
-    let a = c .before .before .before .before .args in
+    let a = c .before .before .before .before .before .before .args in
     let l = c .before .loop in
     let e : l .at ≡ 0 = omega arith in
     ap (λ (t : Part). t .quotient) (l .inv .1 ∙ ap (partOf (wideOf (a .w)) (a .d)) e) ∙ part-all (wideOf (a .w)) (a .d)
@@ -101,9 +110,12 @@ divide-spec =
     μ-loop
     step-bits-requires
     bits-requires
-    loop-holds
     smaller-requires
     sub-at
+    first-step-requires
+    loop-holds
+    smaller-requires-2
+    sub-at-2
     word-at-requires
     cast-step
     shl-step
