@@ -16,7 +16,7 @@ use Rattle.pool_types.specs.declared.FeeStrategy.{FeeStrategy}
 use Rattle.pool_types.specs.declared.Submission.{Submission}
 use Rattle.pool_types.specs.declared.Verdict.{Verdict}
 use Rattle.pool_types.specs.declared.Verdict.the-variants.{Valid}
-use Rattle.pool_types.specs.Outcomes.{refused}
+use Rattle.pool_types.specs.Outcomes.{refused, readingOf}
 use Rattle.weight.specs.Weight.{feePerFactor, factorOf}
 use Rattle.arguments.specs.Arguments.{feeOf}
 use Rattle.entries.specs.Entries.{Entry, keyOf, pooled}
@@ -88,8 +88,8 @@ module _ (g : MempoolConfig) (a : Submission) (c : ℕ) (ins outs : List ℕ) (v
 
   -- the pool's tables agree with the ledger that heard the outcome; whatever that was, the charge stands, and what next gave last
   pub record Settles (d : Admitted) : Type 0 where
-    pub book : SameBook (d .tables) (submitted g a ins outs (d .outcome) l .book)
-    pub rest : submitted g a ins outs (d .outcome) l ≡ withBook (submitted g a ins outs (d .outcome) l .book) (chargeFor a l)
+    pub book : SameBook (d .tables) (submitted g a ins outs (readingOf (d .outcome)) l .book)
+    pub rest : submitted g a ins outs (readingOf (d .outcome)) l ≡ withBook (submitted g a ins outs (readingOf (d .outcome)) l .book) (chargeFor a l)
 
   either : (t : Bool) (x y : Admitted) → Settles x → Settles y → Settles (pick t x y)
   either true x y p q = p

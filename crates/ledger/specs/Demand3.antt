@@ -13,7 +13,7 @@ use Rattle.pool_types.specs.declared.MempoolConfig.{MempoolConfig}
 use Rattle.pool_types.specs.declared.Submission.{Submission}
 use Rattle.pool_types.specs.declared.Source.{Source}
 use Rattle.pool_types.specs.declared.Source.the-variants.{Local, Peer}
-use Rattle.pool_types.specs.Outcomes.{Outcome, refused, done, wrote, needed, candidate, ended, missing, invalid, valid, number, said, entry, none}
+use Rattle.pool_types.specs.Outcomes.{Reading, declined, did, offers, fails, tells, readingOf}
 use Rattle.entries.specs.Entries.{Entry, pooled}
 use Rattle.entries.specs.Entries.{weightOf as entryWeight, keyOf as entryId}
 use Rattle.entries.specs.InOrder.{Strict}
@@ -70,39 +70,23 @@ OncePerChain c k b =
     ≡ map (λ t. replicate (count j (chains (parentsIn b) visitCap k longest)) c ++ t .credits) (found (λ t. t .id) j (b .txs))
 
 -- a submission that entered
-abbrev pub CreditsChains : MempoolConfig → Submission → List ℕ → List ℕ → Outcome → Ledger → Type 0
-CreditsChains g a ins outs done l = OncePerChain (baseOf g a outs) (idOf (a .id)) (entered g a ins outs l)
-CreditsChains g a ins outs (wrote n) l = OncePerChain (baseOf g a outs) (idOf (a .id)) (entered g a ins outs l)
-CreditsChains g a ins outs (refused n k) l = Unit {0}
-CreditsChains g a ins outs needed l = Unit {0}
-CreditsChains g a ins outs (candidate k) l = Unit {0}
-CreditsChains g a ins outs (ended n) l = Unit {0}
-CreditsChains g a ins outs (missing k) l = Unit {0}
-CreditsChains g a ins outs (invalid k) l = Unit {0}
-CreditsChains g a ins outs (valid k) l = Unit {0}
-CreditsChains g a ins outs (number n) l = Unit {0}
-CreditsChains g a ins outs (said t) l = Unit {0}
-CreditsChains g a ins outs (entry k w b) l = Unit {0}
-CreditsChains g a ins outs none l = Unit {0}
+abbrev pub CreditsChains : MempoolConfig → Submission → List ℕ → List ℕ → Reading → Ledger → Type 0
+CreditsChains g a ins outs (did n) l = OncePerChain (baseOf g a outs) (idOf (a .id)) (entered g a ins outs l)
+CreditsChains g a ins outs (declined n k) l = Unit {0}
+CreditsChains g a ins outs (offers k) l = Unit {0}
+CreditsChains g a ins outs (fails k) l = Unit {0}
+CreditsChains g a ins outs tells l = Unit {0}
 
 -- ---- "a submission that no earlier check refused fails 24 exactly if it is remote and that total is at its limit or above, 25 exactly if remote and its
 -- peer's sum is, 26 exactly if remote, its peer has had no charge since then and 256 others have"
 
--- the outcome is a refusal with one of these numbers
-abbrev pub refusedBy : List ℕ → Outcome → Bool
-refusedBy ns (refused n k) = among n ns
-refusedBy ns done = false
-refusedBy ns (wrote n) = false
-refusedBy ns needed = false
-refusedBy ns (candidate k) = false
-refusedBy ns (ended n) = false
-refusedBy ns (missing k) = false
-refusedBy ns (invalid k) = false
-refusedBy ns (valid k) = false
-refusedBy ns (number n) = false
-refusedBy ns (said t) = false
-refusedBy ns (entry k w b) = false
-refusedBy ns none = false
+-- it was refused with one of these numbers
+abbrev pub refusedBy : List ℕ → Reading → Bool
+refusedBy ns (declined n k) = among n ns
+refusedBy ns (did n) = false
+refusedBy ns (offers k) = false
+refusedBy ns (fails k) = false
+refusedBy ns tells = false
 
 -- it is remote, and its peer passes a test
 abbrev pub remoteWith : Source → (ℕ → Bool) → Bool
@@ -113,11 +97,11 @@ remoteWith (Peer p) test = test p
 abbrev pub earlier : List ℕ
 earlier = 20 ∷ 1 ∷ 2 ∷ 3 ∷ 4 ∷ 5 ∷ 22 ∷ 23 ∷ []
 
--- of a submission from `from` with this outcome, where these were the charges since the last block
-pub record Limits (g : MempoolConfig) (from : Source) (o : Outcome) (cs : List Charge) : Type 0 where
-  pub fails-24 : refusedBy earlier o ≡ false → refusedBy (24 ∷ []) o ≡ remoteWith from (λ p. leb (g .«cost_per_block») (totalCharged cs))
-  pub fails-25 : refusedBy (24 ∷ earlier) o ≡ false → refusedBy (25 ∷ []) o ≡ remoteWith from (λ p. leb (g .«cost_per_peer_per_block») (chargedTo p cs))
-  pub fails-26 : refusedBy (25 ∷ 24 ∷ earlier) o ≡ false → refusedBy (26 ∷ []) o ≡ remoteWith from (λ p. not (among p (payers cs)) && leb 256 (length (payers cs)))
+-- of a submission from `from`, of whose outcome r is read, where these were the charges since the last block
+pub record Limits (g : MempoolConfig) (from : Source) (r : Reading) (cs : List Charge) : Type 0 where
+  pub fails-24 : refusedBy earlier r ≡ false → refusedBy (24 ∷ []) r ≡ remoteWith from (λ p. leb (g .«cost_per_block») (totalCharged cs))
+  pub fails-25 : refusedBy (24 ∷ earlier) r ≡ false → refusedBy (25 ∷ []) r ≡ remoteWith from (λ p. leb (g .«cost_per_peer_per_block») (chargedTo p cs))
+  pub fails-26 : refusedBy (25 ∷ 24 ∷ earlier) r ≡ false → refusedBy (26 ∷ []) r ≡ remoteWith from (λ p. not (among p (payers cs)) && leb 256 (length (payers cs)))
 
 -- ---- of every call in the list, with the ledger as it was before
 
@@ -132,9 +116,9 @@ ofSubmission P (Answer flags v) = Unit {0}
 ofSubmission P (Start time c) = Unit {0}
 ofSubmission P (Ask q) = Unit {0}
 
-abbrev pub everySubmission : (Submission → List ℕ → List ℕ → Outcome → Ledger → Type 0) → MempoolConfig → List Heard → Type 0
+abbrev pub everySubmission : (Submission → List ℕ → List ℕ → Reading → Ledger → Type 0) → MempoolConfig → List Heard → Type 0
 everySubmission P g [] = Unit {0}
-everySubmission P g (x ∷ h) = ofSubmission (λ a ins outs. P a ins outs (x .outcome) (told g h)) (x .call) × everySubmission P g h
+everySubmission P g (x ∷ h) = ofSubmission (λ a ins outs. P a ins outs (readingOf (x .outcome)) (told g h)) (x .call) × everySubmission P g h
 
 -- ---- demand 3
 
@@ -159,4 +143,4 @@ pub record Demand3 (g : MempoolConfig) (h : List Heard) (m : Moment) : Type 0 wh
   -- since the last block not refused, or the start, each charge found the total and its peer's sum below their limits
   pub charges : Fair (g .«cost_per_block») (g .«cost_per_peer_per_block») (told g h .charged)
   -- 24, 25 and 26
-  pub refusals : everySubmission (λ a ins outs o l. Limits g (a .source) o (l .charged)) g h
+  pub refusals : everySubmission (λ a ins outs r l. Limits g (a .source) r (l .charged)) g h

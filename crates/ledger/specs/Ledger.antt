@@ -14,7 +14,7 @@ use Rattle.pool_types.specs.declared.MempoolConfig.{MempoolConfig}
 use Rattle.pool_types.specs.declared.Submission.{Submission}
 use Rattle.pool_types.specs.declared.Verdict.{Verdict}
 use Rattle.pool_types.specs.declared.Verdict.the-variants.{Valid, Invalid, Absent}
-use Rattle.pool_types.specs.Outcomes.{Outcome, refused, done, wrote, needed, candidate, ended, missing, invalid, valid, number, said, entry, none}
+use Rattle.pool_types.specs.Outcomes.{Outcome, Reading, declined, did, offers, fails, tells, readingOf}
 use Rattle.weight.specs.Weight.{feePerFactor}
 use Rattle.arguments.specs.Arguments.{feeOf}
 use Rattle.boxes.specs.Flat.{idsOf}
@@ -114,37 +114,21 @@ turnedAway n a ins l =
     pick (eqb n 10 || eqb n 29) (chargeFor a l)
     (pick (eqb n 30) (withBook (losersLeave (idsOf 5 ins) (l .book)) (chargeFor a l)) l)
 
-unfoldable pub submitted : MempoolConfig → Submission → List ℕ → List ℕ → Outcome → Ledger → Ledger
-submitted g a ins outs done l = admitted g a ins outs l
-submitted g a ins outs (wrote n) l = admitted g a ins outs l
-submitted g a ins outs (refused n k) l = turnedAway n a ins l
-submitted g a ins outs needed l = l
-submitted g a ins outs (candidate k) l = l
-submitted g a ins outs (ended n) l = l
-submitted g a ins outs (missing k) l = l
-submitted g a ins outs (invalid k) l = l
-submitted g a ins outs (valid k) l = l
-submitted g a ins outs (number n) l = l
-submitted g a ins outs (said t) l = l
-submitted g a ins outs (entry k w b) l = l
-submitted g a ins outs none l = l
+unfoldable pub submitted : MempoolConfig → Submission → List ℕ → List ℕ → Reading → Ledger → Ledger
+submitted g a ins outs (did n) l = admitted g a ins outs l
+submitted g a ins outs (declined n k) l = turnedAway n a ins l
+submitted g a ins outs (offers k) l = l
+submitted g a ins outs (fails k) l = l
+submitted g a ins outs tells l = l
 
 -- ---- what is not refused
 
-abbrev pub isRefused : Outcome → Bool
-isRefused (refused n k) = true
-isRefused done = false
-isRefused (wrote n) = false
-isRefused needed = false
-isRefused (candidate k) = false
-isRefused (ended n) = false
-isRefused (missing k) = false
-isRefused (invalid k) = false
-isRefused (valid k) = false
-isRefused (number n) = false
-isRefused (said t) = false
-isRefused (entry k w b) = false
-isRefused none = false
+abbrev pub isRefused : Reading → Bool
+isRefused (declined n k) = true
+isRefused (did n) = false
+isRefused (offers k) = false
+isRefused (fails k) = false
+isRefused tells = false
 
 -- "a return not refused enters one, without credits": its base by the fee, size and cost that it brings
 unfoldable pub returned : MempoolConfig → UnconfirmedTx → List ℕ → List ℕ → Ledger → Ledger
@@ -161,46 +145,30 @@ mined txs ins l = record { book = confirmsAll (confirmedOf txs ins) (l .book); c
 
 -- ---- a pass: next gives an id, and one that failed leaves: an input found nowhere, or found invalid
 
-unfoldable pub offered : Outcome → Ledger → Ledger
-offered (candidate k) l = withGiven (k ∷ []) l
-offered (refused n k) l = l
-offered done l = l
-offered (wrote n) l = l
-offered needed l = l
-offered (ended n) l = l
-offered (missing k) l = l
-offered (invalid k) l = l
-offered (valid k) l = l
-offered (number n) l = l
-offered (said t) l = l
-offered (entry k w b) l = l
-offered none l = l
+unfoldable pub offered : Reading → Ledger → Ledger
+offered (offers k) l = withGiven (k ∷ []) l
+offered (declined n k) l = l
+offered (did n) l = l
+offered (fails k) l = l
+offered tells l = l
 
-unfoldable pub failed : Outcome → Ledger → Ledger
-failed (missing k) l = withBook (allLeave (l .given) (l .book)) l
-failed (invalid k) l = withBook (allLeave (l .given) (l .book)) l
-failed (candidate k) l = l
-failed (refused n k) l = l
-failed done l = l
-failed (wrote n) l = l
-failed needed l = l
-failed (ended n) l = l
-failed (valid k) l = l
-failed (number n) l = l
-failed (said t) l = l
-failed (entry k w b) l = l
-failed none l = l
+unfoldable pub failed : Reading → Ledger → Ledger
+failed (fails k) l = withBook (allLeave (l .given) (l .book)) l
+failed (declined n k) l = l
+failed (did n) l = l
+failed (offers k) l = l
+failed tells l = l
 
--- ---- one call with its outcome; "All else changes nothing."
+-- ---- one call with what is read of its outcome; "All else changes nothing."
 
 unfoldable pub ledger : MempoolConfig → Call → Outcome → Ledger → Ledger
-ledger g (Submit a ins outs) o l = submitted g a ins outs o l
-ledger g (Return u ins outs) o l = pick (isRefused o) l (returned g u ins outs l)
-ledger g (Block time txs ins) o l = pick (isRefused o) l (mined txs ins l)
-ledger g (Invalidate time k) o l = pick (isRefused o) l (withBook (leaves k (l .book)) l)
+ledger g (Submit a ins outs) o l = submitted g a ins outs (readingOf o) l
+ledger g (Return u ins outs) o l = pick (isRefused (readingOf o)) l (returned g u ins outs l)
+ledger g (Block time txs ins) o l = pick (isRefused (readingOf o)) l (mined txs ins l)
+ledger g (Invalidate time k) o l = pick (isRefused (readingOf o)) l (withBook (leaves k (l .book)) l)
 ledger g (Open time limit preheader) o l = l
-ledger g Next o l = offered o l
-ledger g (Answer flags v) o l = failed o l
+ledger g Next o l = offered (readingOf o) l
+ledger g (Answer flags v) o l = failed (readingOf o) l
 ledger g (Start time c) o l = l
 ledger g (Ask q) o l = l
 

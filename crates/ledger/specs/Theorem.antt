@@ -15,7 +15,7 @@ use Rattle.pool_types.specs.declared.MempoolConfig.{MempoolConfig}
 use Rattle.pool_types.specs.declared.Submission.{Submission}
 use Rattle.pool_types.specs.declared.StartOutcome.{StartOutcome}
 use Rattle.pool_types.specs.declared.StartOutcome.the-variants.{Ready, NotStarted}
-use Rattle.pool_types.specs.Outcomes.{Outcome, refused, done, wrote, needed, candidate, ended, missing, invalid, valid, number, said, entry, none}
+use Rattle.pool_types.specs.Outcomes.{Outcome, Reading, declined, did, offers, fails, tells, readingOf}
 use Rattle.entries.specs.Entries.{Entry, pooled}
 use Rattle.boxes.specs.Records.{BoxRec, Pair, index, inputsOf}
 use Rattle.boxes.specs.Among.{among}
@@ -64,7 +64,7 @@ module _ (g : MempoolConfig) (bounds : Bounds g) (m k : Moment) (l : Ledger) (o 
   step-agrees (Start time c) x = stays (x .same)
   step-agrees (Ask q) x = stays (x .same)
 
-  step-limits : (c : Call) → Step c o m k → ofSubmission (λ a ins outs. Limits g (a .source) o (l .charged)) c
+  step-limits : (c : Call) → Step c o m k → ofSubmission (λ a ins outs. Limits g (a .source) (readingOf o) (l .charged)) c
   step-limits (Submit a ins outs) x = submission-agrees g bounds m k l a ins outs o s x .1
   step-limits (Return u ins outs) x = tt
   step-limits (Block time txs ins) x = tt
@@ -77,35 +77,27 @@ module _ (g : MempoolConfig) (bounds : Bounds g) (m k : Moment) (l : Ledger) (o 
 
 -- ---- the walks, on the ledger alone
 
-credits-chains : (g : MempoolConfig) (a : Submission) (ins outs : List ℕ) (o : Outcome) (l : Ledger) → CreditsChains g a ins outs o l
-credits-chains g a ins outs done l = λ e longest h j. credits-for-chains _ _ _ _ e longest h j
-credits-chains g a ins outs (wrote n) l = λ e longest h j. credits-for-chains _ _ _ _ e longest h j
-credits-chains g a ins outs (refused n k) l = tt
-credits-chains g a ins outs needed l = tt
-credits-chains g a ins outs (candidate k) l = tt
-credits-chains g a ins outs (ended n) l = tt
-credits-chains g a ins outs (missing k) l = tt
-credits-chains g a ins outs (invalid k) l = tt
-credits-chains g a ins outs (valid k) l = tt
-credits-chains g a ins outs (number n) l = tt
-credits-chains g a ins outs (said t) l = tt
-credits-chains g a ins outs (entry k w b) l = tt
-credits-chains g a ins outs none l = tt
+credits-chains : (g : MempoolConfig) (a : Submission) (ins outs : List ℕ) (r : Reading) (l : Ledger) → CreditsChains g a ins outs r l
+credits-chains g a ins outs (did n) l = λ e longest h j. credits-for-chains _ _ _ _ e longest h j
+credits-chains g a ins outs (declined n k) l = tt
+credits-chains g a ins outs (offers k) l = tt
+credits-chains g a ins outs (fails k) l = tt
+credits-chains g a ins outs tells l = tt
 
-call-chains : (g : MempoolConfig) (c : Call) (o : Outcome) (l : Ledger) → ofSubmission (λ a ins outs. CreditsChains g a ins outs o l) c
-call-chains g (Submit a ins outs) o l = credits-chains g a ins outs o l
-call-chains g (Return u ins outs) o l = tt
-call-chains g (Block time txs ins) o l = tt
-call-chains g (Invalidate time j) o l = tt
-call-chains g (Open time limit preheader) o l = tt
-call-chains g Next o l = tt
-call-chains g (Answer flags v) o l = tt
-call-chains g (Start time c) o l = tt
-call-chains g (Ask q) o l = tt
+call-chains : (g : MempoolConfig) (c : Call) (r : Reading) (l : Ledger) → ofSubmission (λ a ins outs. CreditsChains g a ins outs r l) c
+call-chains g (Submit a ins outs) r l = credits-chains g a ins outs r l
+call-chains g (Return u ins outs) r l = tt
+call-chains g (Block time txs ins) r l = tt
+call-chains g (Invalidate time j) r l = tt
+call-chains g (Open time limit preheader) r l = tt
+call-chains g Next r l = tt
+call-chains g (Answer flags v) r l = tt
+call-chains g (Start time c) r l = tt
+call-chains g (Ask q) r l = tt
 
 every-chain : (g : MempoolConfig) (h : List Heard) → everySubmission (CreditsChains g) g h
 every-chain g [] = tt
-every-chain g (x ∷ h) = (call-chains g (x .call) (x .outcome) (told g h), every-chain g h)
+every-chain g (x ∷ h) = (call-chains g (x .call) (readingOf (x .outcome)) (told g h), every-chain g h)
 
 -- ---- what an accepted start left
 
@@ -184,7 +176,7 @@ module _ (m : Moment) (g : MempoolConfig) (e : Ready (m .state) ≡ started (siz
 pub record Told (g : MempoolConfig) (h : List Heard) (m : Moment) : Type 0 where
   pub bounds : Bounds g
   pub agrees : Agrees g m (told g h)
-  pub limits : everySubmission (λ a ins outs o l. Limits g (a .source) o (l .charged)) g h
+  pub limits : everySubmission (λ a ins outs r l. Limits g (a .source) r (l .charged)) g h
 
 pub run-told : (g : MempoolConfig) {h : List Heard} {m : Moment} → Run g h m → Told g h m
 run-told g (begin m e one) = record { bounds = bounds-of m g e one; agrees = start-agrees m g e; limits = tt }
