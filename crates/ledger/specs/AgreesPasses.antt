@@ -15,14 +15,13 @@ use Rattle.pool_types.specs.Outcomes.{Outcome, refused, done, missing, readingO
 use Rattle.boxes.specs.Records.{inputsOf}
 use Rattle.pool.specs.Pool.{removeTx}
 use Rattle.store.specs.World.{World}
-use Rattle.cleanup.specs.Passes.{PassNow, passOf, PassResult, still, opened, firstDue, sought, nexted, answerRefusal, lacksInput, goes, answeredWith, weighed, answered}
-use Rattle.cleanup.specs.Passes.{offered as poolOffered}
+use Rattle.cleanup.specs.Passes.{PassNow, passOf, PassResult, still, opened, firstDue, sought, nexted, offered, answerRefusal, lacksInput, goes, answeredWith, weighed, answered}
 use Rattle.cleanup.specs.Post.{PassPost}
 use Rattle.lent.specs.Flat.{flatten}
 use Rattle.ledger.specs.Book.{Book, leaves, allLeave}
 use Rattle.ledger.specs.Same.{SameBook}
 use Rattle.ledger.specs.SameLaws.{same-remove, same-stamped}
-use Rattle.ledger.specs.Ledger.{Ledger, withBook, withGiven, offered, failed}
+use Rattle.ledger.specs.Ledger.{Ledger, withBook, withGiven, givesNext, failed}
 use Rattle.ledger.specs.Run.{Moment, worldAt, FitsAt, Opened, Offered, Answered}
 use Rattle.ledger.specs.Agrees.{SameWorld, Agrees, lent-fits, lent-world, flat-at, world-at}
 use Rattle.ledger.specs.AgreesCalls.{zero-not}
@@ -68,17 +67,17 @@ module _ (g : MempoolConfig) (w : World) (p : PassNow) (l : Ledger) (s : SameWor
 
   -- ---- next
 
-  given-passes : (ks : List ℕ) → Passes g (poolOffered ks w p) (offered (readingOf (poolOffered ks w p .outcome)) l)
-  unfolding poolOffered offered
+  given-passes : (ks : List ℕ) → Passes g (offered ks w p) (givesNext (readingOf (offered ks w p .outcome)) l)
+  unfolding offered givesNext
   given-passes [] = record { world = s; given = λ q. false-true q }
   given-passes (k ∷ ks) = record { world = record { book = s .book; charges = s .charges; fair = s .fair }; given = λ q. refl }
 
-  either : (t : Bool) (x y : PassResult) → Passes g x (offered (readingOf (x .outcome)) l) → Passes g y (offered (readingOf (y .outcome)) l) → Passes g (pick t x y) (offered (readingOf (pick t x y .outcome)) l)
+  either : (t : Bool) (x y : PassResult) → Passes g x (givesNext (readingOf (x .outcome)) l) → Passes g y (givesNext (readingOf (y .outcome)) l) → Passes g (pick t x y) (givesNext (readingOf (pick t x y .outcome)) l)
   either true x y a b = a
   either false x y a b = b
 
-  next-passes : (c : MempoolConfig) → Passes g (nexted c w p) (offered (readingOf (nexted c w p .outcome)) l)
-  unfolding nexted sought offered
+  next-passes : (c : MempoolConfig) → Passes g (nexted c w p) (givesNext (readingOf (nexted c w p .outcome)) l)
+  unfolding nexted sought givesNext
   next-passes c =
       either (not (p .isOpen)) _ _ (record { world = s; given = h })
       (either (p .out) _ _ (record { world = record { book = s .book; charges = s .charges; fair = s .fair }; given = λ q. refl })
@@ -128,12 +127,12 @@ module _ (g : MempoolConfig) (m k : Moment) (l : Ledger) (o : Outcome) (s : Agre
       rw (c .rest .entries, c .rest .boxes, c .rest .cache, c .rest .peers, ← world-at m (s .fits)) (c .post (m .entries) (m .boxes) (m .cache) (flatten (m .peers)) (flat-at m (s .fits))) in
       agrees-pass g m k l l o r s (c .rest .peers) p (open-passes g (worldAt m) (passOf (m .state .pass)) l (s .world) (s .given) time limit preheader)
 
-  pub next-agrees : Offered m k o → Agrees g k (offered (readingOf o) l)
+  pub next-agrees : Offered m k o → Agrees g k (givesNext (readingOf o) l)
   next-agrees c =
       let r : PassResult = nexted (m .state .config) (worldAt m) (passOf (m .state .pass)) in
       let p : PassPost (m .state) (k .state) o (k .entries) (k .boxes) (k .cache) (flatten (k .peers)) r =
       rw (c .rest .entries, c .rest .boxes, c .rest .cache, c .rest .peers, ← world-at m (s .fits)) (c .post (m .boxes) (m .cache) (flatten (m .peers)) (flat-at m (s .fits))) in
-      agrees-pass g m k l (offered (readingOf o) l) o r s (c .rest .peers) p (rw (p .outcome) (next-passes g (worldAt m) (passOf (m .state .pass)) l (s .world) (s .given) (m .state .config)))
+      agrees-pass g m k l (givesNext (readingOf o) l) o r s (c .rest .peers) p (rw (p .outcome) (next-passes g (worldAt m) (passOf (m .state .pass)) l (s .world) (s .given) (m .state .config)))
 
   pub answer-agrees : (flags : List ℕ) (v : Verdict) → Answered m k flags v o → Agrees g k (failed (readingOf o) l)
   answer-agrees flags v c =

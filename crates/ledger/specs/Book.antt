@@ -33,8 +33,8 @@ book ts ss ps = record { txs = ts; spenders = ss; producers = ps }
 
 -- ---- weights: "the base plus the credits granted since it last entered, capped at 2^64−1"
 
-unfoldable pub weightOf : Tx → ℕ
-weightOf t = capped (t .base + total (t .credits))
+unfoldable pub txWeight : Tx → ℕ
+txWeight t = capped (t .base + total (t .credits))
 
 -- ---- both indexes "by the pool's rule": "Each box has at most one spender and one producer in the indexes: the last inserted. Removing a transaction
 -- drops the index entries that name it; an older one is not put back."
@@ -103,7 +103,7 @@ walks visits c k b = credited c (walked (parentsIn b) visits k) b
 -- the lowest of x and those in the list: the one that every other is ahead of
 abbrev pub lowestOf : Tx → List Tx → Tx
 lowestOf x [] = x
-lowestOf x (y ∷ ys) = pick (ahead (weightOf (lowestOf y ys)) (lowestOf y ys .id) (weightOf x) (x .id)) x (lowestOf y ys)
+lowestOf x (y ∷ ys) = pick (ahead (txWeight (lowestOf y ys)) (lowestOf y ys .id) (txWeight x) (x .id)) x (lowestOf y ys)
 
 abbrev pub lowestId : List Tx → ℕ
 lowestId [] = 0
@@ -148,8 +148,8 @@ abbrev pair : ℕ → ℕ → Pair
 pair b k = record { box = b; id = k }
 
 -- credits add up, and the cap holds once
-weight-edge : (weightOf (tx 1 30 [] [] (5 ∷ 6 ∷ [])) ≡ 41) × (weightOf (tx 1 cap [] [] (1 ∷ [])) ≡ cap)
-unfolding weightOf
+weight-edge : (txWeight (tx 1 30 [] [] (5 ∷ 6 ∷ [])) ≡ 41) × (txWeight (tx 1 cap [] [] (1 ∷ [])) ≡ cap)
+unfolding txWeight
 weight-edge = (refl, refl)
 
 -- 3 spends 9: its walk credits 2 and 1; a second spender of 8 takes the index's entry, and nobody gets it back
@@ -163,5 +163,5 @@ not-put-back = refl
 
 -- the lowest goes first; of a block that confirms another spender of 8, transaction 2 is driven out
 lowest-edge : (evicts 1 two ≡ enters 1 30 (7 ∷ []) (8 ∷ []) (book [] [] [])) × (confirms 6 (8 ∷ 8 ∷ []) two .txs ≡ tx 1 30 (7 ∷ []) (8 ∷ []) [] ∷ [])
-unfolding evicts leaves enters confirms weightOf ahead
+unfolding evicts leaves enters confirms txWeight ahead
 lowest-edge = (refl, refl)

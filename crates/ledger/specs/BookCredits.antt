@@ -16,7 +16,7 @@ use Rattle.words.specs.Sums.{capped, total}
 use Rattle.boxes.specs.Among.{eqb-comm}
 use Rattle.family.specs.Walk.{level, upto, upto-last, none-below}
 use Rattle.family.specs.Chains.{walked, over, chains, level-lists-ends, no-longer-chain, once-for-every-chain}
-use Rattle.ledger.specs.Book.{Tx, Book, book, weightOf, creditTx, credited, parentsIn, walks}
+use Rattle.ledger.specs.Book.{Tx, Book, book, txWeight, creditTx, credited, parentsIn, walks}
 
 -- ---- so many credits of c for each id
 
@@ -108,6 +108,6 @@ total-more : (n c : ℕ) (cs : List ℕ) → total (replicate n c ++ cs) ≡ n *
 total-more zero c cs = rw (zero-mul c) (sym (zero-add (total cs)))
 total-more (suc n) c cs = rw (suc-mul n c) (omega (arith, total-more n c cs))
 
-pub granted-weight : (c : ℕ) (n : ℕ → ℕ) (t : Tx) → weightOf (granted c n t) ≡ capped (t .base + (n (t .id) * c + total (t .credits)))
-unfolding weightOf
+pub granted-weight : (c : ℕ) (n : ℕ → ℕ) (t : Tx) → txWeight (granted c n t) ≡ capped (t .base + (n (t .id) * c + total (t .credits)))
+unfolding txWeight
 granted-weight c n t = ap (λ x. capped (t .base + x)) (total-more (n (t .id)) c (t .credits))

@@ -22,9 +22,9 @@ use Rattle.boxes.specs.Flat.{idsOf}
 use Rattle.boxes.specs.Records.{BoxRec, Pair, index, inputsOf}
 use Rattle.pool.specs.Pool.{Tables}
 use Rattle.family.specs.Chains.{over, chains}
-use Rattle.ledger.specs.Book.{Tx, Book, weightOf, losersLeave, enters, walks, parentsIn}
+use Rattle.ledger.specs.Book.{Tx, Book, txWeight, losersLeave, enters, walks, parentsIn}
 use Rattle.ledger.specs.Charges.{Charge, totalCharged, chargedTo, payers, Fair}
-use Rattle.ledger.specs.Ledger.{Call, Submit, Return, Block, Invalidate, Open, Next, Answer, Start, Ask, Ledger, visitCap, baseOf, Heard, told}
+use Rattle.ledger.specs.Ledger.{Call, Submit, Return, Block, Invalidate, Open, Next, Answer, Start, Ask, Ledger, visitCap, submittedBase, Heard, told}
 use Rattle.ledger.specs.Uses.{outputsOf}
 use Rattle.ledger.specs.Run.{Moment, worldAt}
 
@@ -59,7 +59,7 @@ Names boxesOf t (p ∷ ps) = (pooled (p .id) (t .entries) ≡ true) × (among (p
 
 -- the newcomer has entered, and its walk has not begun: "In demand 3's ledger at that moment, before eviction"
 abbrev pub entered : MempoolConfig → Submission → List ℕ → List ℕ → Ledger → Book
-entered g a ins outs l = enters (idOf (a .id)) (baseOf g a outs) (idsOf 5 ins) (idsOf 7 outs) (losersLeave (idsOf 5 ins) (l .book))
+entered g a ins outs l = enters (idOf (a .id)) (submittedBase g a outs) (idsOf 5 ins) (idsOf 7 outs) (losersLeave (idsOf 5 ins) (l .book))
 
 -- the walk of transaction k, of base c, ended with no parent left: each transaction j got c once for every chain of spends that ends at it, however long
 -- chains may be
@@ -71,7 +71,7 @@ OncePerChain c k b =
 
 -- a submission that entered
 abbrev pub CreditsChains : MempoolConfig → Submission → List ℕ → List ℕ → Reading → Ledger → Type 0
-CreditsChains g a ins outs (did n) l = OncePerChain (baseOf g a outs) (idOf (a .id)) (entered g a ins outs l)
+CreditsChains g a ins outs (did n) l = OncePerChain (submittedBase g a outs) (idOf (a .id)) (entered g a ins outs l)
 CreditsChains g a ins outs (declined n k) l = Unit {0}
 CreditsChains g a ins outs (offers k) l = Unit {0}
 CreditsChains g a ins outs (fails k) l = Unit {0}
@@ -98,7 +98,7 @@ abbrev pub earlier : List ℕ
 earlier = 20 ∷ 1 ∷ 2 ∷ 3 ∷ 4 ∷ 5 ∷ 22 ∷ 23 ∷ []
 
 -- of a submission from `from`, of whose outcome r is read, where these were the charges since the last block
-pub record Limits (g : MempoolConfig) (from : Source) (r : Reading) (cs : List Charge) : Type 0 where
+pub record FailsExactly (g : MempoolConfig) (from : Source) (r : Reading) (cs : List Charge) : Type 0 where
   pub fails-24 : refusedBy earlier r ≡ false → refusedBy (24 ∷ []) r ≡ remoteWith from (λ p. leb (g .«cost_per_block») (totalCharged cs))
   pub fails-25 : refusedBy (24 ∷ earlier) r ≡ false → refusedBy (25 ∷ []) r ≡ remoteWith from (λ p. leb (g .«cost_per_peer_per_block») (chargedTo p cs))
   pub fails-26 : refusedBy (25 ∷ 24 ∷ earlier) r ≡ false → refusedBy (26 ∷ []) r ≡ remoteWith from (λ p. not (among p (payers cs)) && leb 256 (length (payers cs)))
@@ -137,10 +137,10 @@ pub record Demand3 (g : MempoolConfig) (h : List Heard) (m : Moment) : Type 0 wh
   pub named-spenders : Names inputsOf (worldAt m .tables) (index false (worldAt m .tables .boxes))
   pub named-producers : Names outputsOf (worldAt m .tables) (index true (worldAt m .tables .boxes))
   -- each weight the base plus the credits granted since it last entered, capped at 2^64−1
-  pub weights : (k : ℕ) → map entryWeight (found (λ e. e .id) k (worldAt m .tables .entries)) ≡ map weightOf (found (λ t. t .id) k (told g h .book .txs))
+  pub weights : (k : ℕ) → map entryWeight (found (λ e. e .id) k (worldAt m .tables .entries)) ≡ map txWeight (found (λ t. t .id) k (told g h .book .txs))
   -- a family walk that ended with no parent left credited once for every chain of spends
   pub chains : everySubmission (CreditsChains g) g h
   -- since the last block not refused, or the start, each charge found the total and its peer's sum below their limits
   pub charges : Fair (g .«cost_per_block») (g .«cost_per_peer_per_block») (told g h .charged)
   -- 24, 25 and 26
-  pub refusals : everySubmission (λ a ins outs r l. Limits g (a .source) r (l .charged)) g h
+  pub refusals : everySubmission (λ a ins outs r l. FailsExactly g (a .source) r (l .charged)) g h

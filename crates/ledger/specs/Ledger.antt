@@ -92,21 +92,21 @@ verdictCost (Valid c) = c
 verdictCost Invalid = 0
 verdictCost Absent = 0
 
-abbrev pub costOf : Submission → ℕ
-costOf a = max (verdictCost (a .verdict)) (a .size)
+abbrev pub submittedCost : Submission → ℕ
+submittedCost a = max (verdictCost (a .verdict)) (a .size)
 
 -- its base: "Fee = sum of flagged values"
-abbrev pub baseOf : MempoolConfig → Submission → List ℕ → ℕ
-baseOf g a outs = feePerFactor (g .«fee_strategy») (feeOf outs) (a .size) (costOf a)
+abbrev pub submittedBase : MempoolConfig → Submission → List ℕ → ℕ
+submittedBase g a outs = feePerFactor (g .«fee_strategy») (feeOf outs) (a .size) (submittedCost a)
 
 -- "Outcomes `Accepted`, `Replaced`, 10, 29 and 30 charge a remote submission its cost"
 unfoldable pub chargeFor : Submission → Ledger → Ledger
-chargeFor a l = record { book = l .book; charged = charges (a .source) (costOf a) (l .charged); given = l .given }
+chargeFor a l = record { book = l .book; charged = charges (a .source) (submittedCost a) (l .charged); given = l .given }
 
 -- "`Accepted`, `Replaced` .. enters one, without credits; a submission's walk then runs on the ledger"
-unfoldable pub admitted : MempoolConfig → Submission → List ℕ → List ℕ → Ledger → Ledger
-admitted g a ins outs l =
-    withBook (admits visitCap (g .capacity) (idOf (a .id)) (baseOf g a outs) (idsOf 5 ins) (idsOf 7 outs) (l .book)) (chargeFor a l)
+unfoldable pub entersSubmission : MempoolConfig → Submission → List ℕ → List ℕ → Ledger → Ledger
+entersSubmission g a ins outs l =
+    withBook (admits visitCap (g .capacity) (idOf (a .id)) (submittedBase g a outs) (idsOf 5 ins) (idsOf 7 outs) (l .book)) (chargeFor a l)
 
 -- "Losers (at 30 too) .. leave"
 unfoldable pub turnedAway : ℕ → Submission → List ℕ → Ledger → Ledger
@@ -114,12 +114,12 @@ turnedAway n a ins l =
     pick (eqb n 10 || eqb n 29) (chargeFor a l)
     (pick (eqb n 30) (withBook (losersLeave (idsOf 5 ins) (l .book)) (chargeFor a l)) l)
 
-unfoldable pub submitted : MempoolConfig → Submission → List ℕ → List ℕ → Reading → Ledger → Ledger
-submitted g a ins outs (did n) l = admitted g a ins outs l
-submitted g a ins outs (declined n k) l = turnedAway n a ins l
-submitted g a ins outs (offers k) l = l
-submitted g a ins outs (fails k) l = l
-submitted g a ins outs tells l = l
+unfoldable pub hearsSubmission : MempoolConfig → Submission → List ℕ → List ℕ → Reading → Ledger → Ledger
+hearsSubmission g a ins outs (did n) l = entersSubmission g a ins outs l
+hearsSubmission g a ins outs (declined n k) l = turnedAway n a ins l
+hearsSubmission g a ins outs (offers k) l = l
+hearsSubmission g a ins outs (fails k) l = l
+hearsSubmission g a ins outs tells l = l
 
 -- ---- what is not refused
 
@@ -131,8 +131,8 @@ isRefused (fails k) = false
 isRefused tells = false
 
 -- "a return not refused enters one, without credits": its base by the fee, size and cost that it brings
-unfoldable pub returned : MempoolConfig → UnconfirmedTx → List ℕ → List ℕ → Ledger → Ledger
-returned g u ins outs l =
+unfoldable pub entersReturn : MempoolConfig → UnconfirmedTx → List ℕ → List ℕ → Ledger → Ledger
+entersReturn g u ins outs l =
     withBook (enters (idOf (u .id)) (feePerFactor (g .«fee_strategy») (u .fee) (u .size) (u .cost)) (idsOf 4 ins) (idsOf 5 outs) (l .book)) l
 
 -- "those a block removes leave"; "a block not refused clears the charges"
@@ -145,12 +145,12 @@ mined txs ins l = record { book = confirmsAll (confirmedOf txs ins) (l .book); c
 
 -- ---- a pass: next gives an id, and one that failed leaves: an input found nowhere, or found invalid
 
-unfoldable pub offered : Reading → Ledger → Ledger
-offered (offers k) l = withGiven (k ∷ []) l
-offered (declined n k) l = l
-offered (did n) l = l
-offered (fails k) l = l
-offered tells l = l
+unfoldable pub givesNext : Reading → Ledger → Ledger
+givesNext (offers k) l = withGiven (k ∷ []) l
+givesNext (declined n k) l = l
+givesNext (did n) l = l
+givesNext (fails k) l = l
+givesNext tells l = l
 
 unfoldable pub failed : Reading → Ledger → Ledger
 failed (fails k) l = withBook (allLeave (l .given) (l .book)) l
@@ -162,12 +162,12 @@ failed tells l = l
 -- ---- one call with what is read of its outcome; "All else changes nothing."
 
 unfoldable pub ledger : MempoolConfig → Call → Outcome → Ledger → Ledger
-ledger g (Submit a ins outs) o l = submitted g a ins outs (readingOf o) l
-ledger g (Return u ins outs) o l = pick (isRefused (readingOf o)) l (returned g u ins outs l)
+ledger g (Submit a ins outs) o l = hearsSubmission g a ins outs (readingOf o) l
+ledger g (Return u ins outs) o l = pick (isRefused (readingOf o)) l (entersReturn g u ins outs l)
 ledger g (Block time txs ins) o l = pick (isRefused (readingOf o)) l (mined txs ins l)
 ledger g (Invalidate time k) o l = pick (isRefused (readingOf o)) l (withBook (leaves k (l .book)) l)
 ledger g (Open time limit preheader) o l = l
-ledger g Next o l = offered (readingOf o) l
+ledger g Next o l = givesNext (readingOf o) l
 ledger g (Answer flags v) o l = failed (readingOf o) l
 ledger g (Start time c) o l = l
 ledger g (Ask q) o l = l

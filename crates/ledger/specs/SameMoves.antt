@@ -18,7 +18,7 @@ use Rattle.pool.specs.Pool.{Tables, removeTx, nobody, lowest, dropLow, trim, ev
 use Rattle.pool.specs.Ok.{low-remove}
 use Rattle.family.specs.Family.{propagated}
 use Rattle.family.specs.Chains.{walked}
-use Rattle.ledger.specs.Book.{Tx, Book, book, weightOf, leaves, creditTx, credited, parentsIn, walks, lowestId, trimmed, evicts}
+use Rattle.ledger.specs.Book.{Tx, Book, book, txWeight, leaves, creditTx, credited, parentsIn, walks, lowestId, trimmed, evicts}
 use Rattle.ledger.specs.Same.{Brief, briefOf, viewOf, usesIn, SameBook}
 use Rattle.ledger.specs.Uses.{ids, inputs-in-book}
 use Rattle.ledger.specs.Views.{sort-view, lowest-last, sortTxs}
@@ -44,7 +44,7 @@ brief-raise c k (e ∷ es) = λ i. go (eqb (e .id) k) i ∷ brief-raise c k es i
     go false = refl
 
 view-raise : (c k : ℕ) (ts : List Tx) → map viewOf (map (creditTx c k) ts) ≡ map (raise c k) (map viewOf ts)
-unfolding weightOf
+unfolding txWeight
 view-raise c k [] = refl
 view-raise c k (t ∷ ts) = λ i. record { id = t .id; weight = go (eqb (t .id) k) i; base = t .base } ∷ view-raise c k ts i
   where
@@ -100,7 +100,7 @@ abbrev noTx : Tx
 noTx = record { id = 0; base = 0; ins = []; outs = []; credits = [] }
 
 pub lowest-same : (t : Tables) (b : Book) → SameBook t b → lowest t .id ≡ lowestId (b .txs)
-unfolding weightOf
+unfolding txWeight
 lowest-same t b s =
     ap named (last-view briefOf nobody (t .entries))
     ∙ ap (λ es. last (briefOf nobody) es .id) (s .entries ∙ sym (sort-view viewOf weighs named (b .txs)))

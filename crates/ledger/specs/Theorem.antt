@@ -29,7 +29,7 @@ use Rattle.expiring_cache.specs.Layout.{ok-room as cache-room}
 use Rattle.store.specs.Fits.{goes-on, un-not}
 use Rattle.mempool.specs.Start.{Sizes, sized, settled, within, empty, started}
 use Rattle.lent.specs.Lent.{LentFits}
-use Rattle.ledger.specs.Book.{Tx, Book, inBook, insOf, outsOf, weightOf, walks}
+use Rattle.ledger.specs.Book.{Tx, Book, inBook, insOf, outsOf, txWeight, walks}
 use Rattle.ledger.specs.Charges.{Fair}
 use Rattle.ledger.specs.ChargeLaws.{in-among}
 use Rattle.ledger.specs.Same.{Brief, briefOf, viewOf, SameBook}
@@ -38,9 +38,9 @@ use Rattle.ledger.specs.SameCharges.{same-none as charges-none}
 use Rattle.ledger.specs.Uses.{outputsOf}
 use Rattle.ledger.specs.Readings.{Named, found-same, ids-once, in-strict-order, length-same, pooled-same, weights-same, bases-same, inputs-same, outputs-same, named-spender, named-producer}
 use Rattle.ledger.specs.BookCredits.{credits-for-chains}
-use Rattle.ledger.specs.Ledger.{Call, Submit, Return, Block, Invalidate, Open, Next, Answer, Start, Ask, Ledger, Heard, told, ledger, visitCap, baseOf}
+use Rattle.ledger.specs.Ledger.{Call, Submit, Return, Block, Invalidate, Open, Next, Answer, Start, Ask, Ledger, Heard, told, ledger, visitCap, submittedBase}
 use Rattle.ledger.specs.Run.{Moment, worldAt, FitsAt, sizesAt, Step, Run, begin, call}
-use Rattle.ledger.specs.Demand3.{Known, pooledAs, heldAs, Names, entered, OncePerChain, CreditsChains, Limits, ofSubmission, everySubmission, Demand3}
+use Rattle.ledger.specs.Demand3.{Known, pooledAs, heldAs, Names, entered, OncePerChain, CreditsChains, FailsExactly, ofSubmission, everySubmission, Demand3}
 use Rattle.ledger.specs.Agrees.{Bounds, SameWorld, Agrees}
 use Rattle.ledger.specs.AgreesSubmission.{submission-agrees}
 use Rattle.ledger.specs.AgreesCalls.{return-agrees, invalidation-agrees, block-agrees}
@@ -64,7 +64,7 @@ module _ (g : MempoolConfig) (bounds : Bounds g) (m k : Moment) (l : Ledger) (o 
   step-agrees (Start time c) x = stays (x .same)
   step-agrees (Ask q) x = stays (x .same)
 
-  step-limits : (c : Call) → Step c o m k → ofSubmission (λ a ins outs. Limits g (a .source) (readingOf o) (l .charged)) c
+  step-limits : (c : Call) → Step c o m k → ofSubmission (λ a ins outs. FailsExactly g (a .source) (readingOf o) (l .charged)) c
   step-limits (Submit a ins outs) x = submission-agrees g bounds m k l a ins outs o s x .1
   step-limits (Return u ins outs) x = tt
   step-limits (Block time txs ins) x = tt
@@ -176,7 +176,7 @@ module _ (m : Moment) (g : MempoolConfig) (e : Ready (m .state) ≡ started (siz
 pub record Told (g : MempoolConfig) (h : List Heard) (m : Moment) : Type 0 where
   pub bounds : Bounds g
   pub agrees : Agrees g m (told g h)
-  pub limits : everySubmission (λ a ins outs r l. Limits g (a .source) r (l .charged)) g h
+  pub limits : everySubmission (λ a ins outs r l. FailsExactly g (a .source) r (l .charged)) g h
 
 pub run-told : (g : MempoolConfig) {h : List Heard} {m : Moment} → Run g h m → Told g h m
 run-told g (begin m e one) = record { bounds = bounds-of m g e one; agrees = start-agrees m g e; limits = tt }
