@@ -25,12 +25,12 @@ use Rattle.boxes.specs.Flat.{idsOf}
 use Rattle.boxes.specs.Records.{index, conflicts, dropOwner}
 use Rattle.pool.specs.Pool.{Tables, removeTx, removeAll, evict}
 use Rattle.admit.specs.Admit.{Admitted, loses, crowded, newcomer, joined, settled, seated, contested, admitSpec, baseOf, costOf}
-use Rattle.ledger.specs.Book.{Book, losersLeave, enters, walks, evicts, admits}
+use Rattle.ledger.specs.Book.{Book, losersLeave, enters, walks, evicts}
 use Rattle.ledger.specs.Same.{SameBook}
 use Rattle.ledger.specs.SameLaws.{count-same, same-enter, same-remove}
 use Rattle.ledger.specs.SameLosers.{same-losers}
 use Rattle.ledger.specs.SameMoves.{same-propagated, same-evict}
-use Rattle.ledger.specs.Ledger.{Ledger, withBook, visitCap, verdictCost, submittedCost, submittedBase, chargeFor, entersSubmission, turnedAway, hearsSubmission}
+use Rattle.ledger.specs.Ledger.{Ledger, withBook, visitCap, verdictCost, submittedCost, submittedBase, chargeFor, entered, entersSubmission, turnedAway, hearsSubmission}
 
 -- ---- a base is a number of 64 bits
 
@@ -104,15 +104,16 @@ module _ (g : MempoolConfig) (a : Submission) (c : ℕ) (ins outs : List ℕ) (v
     gone : SameBook (removeAll ks t) (losersLeave (idsOf 5 ins) (l .book))
     gone = same-losers (idsOf 5 ins) t (l .book) s
 
-    in-book : SameBook (joined visitCap e ins outs (removeAll ks t)) (walks visitCap (baseOf g a c outs) (idOf (a .id)) (enters (idOf (a .id)) (baseOf g a c outs) (idsOf 5 ins) (idsOf 7 outs) (losersLeave (idsOf 5 ins) (l .book))))
-    unfolding joined newcomer
+    in-book : SameBook (joined visitCap e ins outs (removeAll ks t)) (walks visitCap (submittedBase g a outs) (idOf (a .id)) (entered g a ins outs (l .book)))
+    unfolding joined newcomer entered
     in-book =
-        same-propagated visitCap (baseOf g a c outs) (idOf (a .id)) _ _
-        (same-enter e (idsOf 5 ins) (idsOf 7 outs) (removeAll ks t) _ gone (still-new (idOf (a .id)) ks t new) refl (base-low (g .«fee_strategy») (feeOf outs) (a .size) (costOf c (a .size))))
+        rw base-is
+        (same-propagated visitCap (baseOf g a c outs) (idOf (a .id)) _ _
+        (same-enter e (idsOf 5 ins) (idsOf 7 outs) (removeAll ks t) _ gone (still-new (idOf (a .id)) ks t new) refl (base-low (g .«fee_strategy») (feeOf outs) (a .size) (costOf c (a .size)))))
 
     admits-same : SameBook (evict (g .capacity) (joined visitCap e ins outs (removeAll ks t))) (entersSubmission g a ins outs l .book)
-    unfolding entersSubmission admits chargeFor
-    admits-same = rw base-is (same-evict (g .capacity) _ _ in-book)
+    unfolding entersSubmission chargeFor
+    admits-same = same-evict (g .capacity) _ _ in-book
 
     settles : (js : List ℕ) → Settles (settled (g .capacity) js (joined visitCap e ins outs (removeAll ks t)))
     unfolding settled hearsSubmission entersSubmission

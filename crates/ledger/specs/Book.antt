@@ -73,9 +73,9 @@ losersLeave ins b = allLeave (flat (lookup (b .spenders)) ins) b
 abbrev pub creditTx : ℕ → ℕ → Tx → Tx
 creditTx c k t = record { id = t .id; base = t .base; ins = t .ins; outs = t .outs; credits = pick (eqb (t .id) k) (c ∷ t .credits) (t .credits) }
 
-abbrev pub credited : ℕ → List ℕ → Book → Book
-credited c [] b = b
-credited c (k ∷ ks) b = credited c ks (book (map (creditTx c k) (b .txs)) (b .spenders) (b .producers))
+abbrev pub creditsTo : ℕ → List ℕ → Book → Book
+creditsTo c [] b = b
+creditsTo c (k ∷ ks) b = creditsTo c ks (book (map (creditTx c k) (b .txs)) (b .spenders) (b .producers))
 
 abbrev pub insOf : ℕ → List Tx → List ℕ
 insOf k [] = []
@@ -96,7 +96,7 @@ parentsIn b k = flat (lookup (b .producers)) (insOf k (b .txs))
 
 -- the walk of the newcomer k with the base c, of so many visits at most
 unfoldable pub walks : ℕ → ℕ → ℕ → Book → Book
-walks visits c k b = credited c (walked (parentsIn b) visits k) b
+walks visits c k b = creditsTo c (walked (parentsIn b) visits k) b
 
 -- ---- "eviction of the lowest until the capacity is met"
 
@@ -109,17 +109,12 @@ abbrev pub lowestId : List Tx → ℕ
 lowestId [] = 0
 lowestId (x ∷ xs) = lowestOf x xs .id
 
-abbrev pub trimmed : ℕ → ℕ → Book → Book
-trimmed zero n b = b
-trimmed (suc f) n b = pick (leb (length (b .txs)) n) b (trimmed f n (leaves (lowestId (b .txs)) b))
+abbrev pub trims : ℕ → ℕ → Book → Book
+trims zero n b = b
+trims (suc f) n b = pick (leb (length (b .txs)) n) b (trims f n (leaves (lowestId (b .txs)) b))
 
 unfoldable pub evicts : ℕ → Book → Book
-evicts n b = trimmed (length (b .txs)) n b
-
--- ---- a submission that is admitted: "losers go; .. insert, credits, eviction of the lowest until the capacity is met"
-
-unfoldable pub admits : ℕ → ℕ → ℕ → ℕ → List ℕ → List ℕ → Book → Book
-admits visits capacity k base ins outs b = evicts capacity (walks visits base k (enters k base ins outs (losersLeave ins b)))
+evicts n b = trims (length (b .txs)) n b
 
 -- ---- a block: "those a block removes leave when and as this document's rules say"
 

@@ -20,7 +20,7 @@ use Rattle.arguments.specs.Arguments.{feeOf}
 use Rattle.boxes.specs.Flat.{idsOf}
 use Rattle.returns.specs.declared.UnconfirmedTx.{UnconfirmedTx}
 use Rattle.blocks.specs.Blocks.{Confirmed, confirmedOf}
-use Rattle.ledger.specs.Book.{Book, book, enters, leaves, allLeave, losersLeave, admits, confirms}
+use Rattle.ledger.specs.Book.{Book, book, enters, leaves, allLeave, losersLeave, walks, evicts, confirms}
 use Rattle.ledger.specs.Charges.{Charge, charges}
 
 -- ---- the calls, with their arguments
@@ -103,10 +103,15 @@ submittedBase g a outs = feePerFactor (g .«fee_strategy») (feeOf outs) (a .siz
 unfoldable pub chargeFor : Submission → Ledger → Ledger
 chargeFor a l = record { book = l .book; charged = charges (a .source) (submittedCost a) (l .charged); given = l .given }
 
--- "`Accepted`, `Replaced` .. enters one, without credits; a submission's walk then runs on the ledger"
+-- "`Accepted`, `Replaced` .. enters one, without credits": losers have left, the newcomer has entered, and its walk has not begun ("In demand 3's ledger at
+-- that moment, before eviction")
+unfoldable pub entered : MempoolConfig → Submission → List ℕ → List ℕ → Book → Book
+entered g a ins outs b = enters (idOf (a .id)) (submittedBase g a outs) (idsOf 5 ins) (idsOf 7 outs) (losersLeave (idsOf 5 ins) b)
+
+-- "a submission's walk then runs on the ledger", and after it "eviction of the lowest until the capacity is met"
 unfoldable pub entersSubmission : MempoolConfig → Submission → List ℕ → List ℕ → Ledger → Ledger
 entersSubmission g a ins outs l =
-    withBook (admits visitCap (g .capacity) (idOf (a .id)) (submittedBase g a outs) (idsOf 5 ins) (idsOf 7 outs) (l .book)) (chargeFor a l)
+    withBook (evicts (g .capacity) (walks visitCap (submittedBase g a outs) (idOf (a .id)) (entered g a ins outs (l .book)))) (chargeFor a l)
 
 -- "Losers (at 30 too) .. leave"
 unfoldable pub turnedAway : ℕ → Submission → List ℕ → Ledger → Ledger
