@@ -16,7 +16,7 @@ use Rattle.pool_types.specs.declared.FeeStrategy.{FeeStrategy}
 use Rattle.pool_types.specs.declared.Submission.{Submission}
 use Rattle.pool_types.specs.declared.Verdict.{Verdict}
 use Rattle.pool_types.specs.declared.Verdict.the-variants.{Valid}
-use Rattle.pool_types.specs.Outcomes.{refused}
+use Rattle.pool_types.specs.Outcomes.{refused, readingOf}
 use Rattle.weight.specs.Weight.{feePerFactor, factorOf}
 use Rattle.arguments.specs.Arguments.{feeOf}
 use Rattle.entries.specs.Entries.{Entry, keyOf, pooled}
@@ -24,14 +24,13 @@ use Rattle.entries.specs.InOrder.{not-pooled}
 use Rattle.boxes.specs.Flat.{idsOf}
 use Rattle.boxes.specs.Records.{index, conflicts, dropOwner}
 use Rattle.pool.specs.Pool.{Tables, removeTx, removeAll, evict}
-use Rattle.admit.specs.Admit.{Admitted, loses, crowded, newcomer, joined, settled, seated, contested, admitSpec}
-use Rattle.admit.specs.Admit.{baseOf as poolBase, costOf as poolCost}
-use Rattle.ledger.specs.Book.{Book, losersLeave, enters, walks, evicts, admits}
+use Rattle.admit.specs.Admit.{Admitted, loses, crowded, newcomer, joined, settled, seated, contested, admitSpec, baseOf, costOf}
+use Rattle.ledger.specs.Book.{Book, losersLeave, enters, walks, evicts}
 use Rattle.ledger.specs.Same.{SameBook}
 use Rattle.ledger.specs.SameLaws.{count-same, same-enter, same-remove}
 use Rattle.ledger.specs.SameLosers.{same-losers}
 use Rattle.ledger.specs.SameMoves.{same-propagated, same-evict}
-use Rattle.ledger.specs.Ledger.{Ledger, withBook, visitCap, verdictCost, costOf, baseOf, chargeFor, admitted, turnedAway, submitted}
+use Rattle.ledger.specs.Ledger.{Ledger, withBook, visitCap, verdictCost, submittedCost, submittedBase, chargeFor, entered, entersSubmission, turnedAway, hearsSubmission}
 
 -- ---- a base is a number of 64 bits
 
@@ -80,16 +79,16 @@ still-new k ks t h = absent-pooled k (removeAll ks t .entries) (omega (arith, co
 -- ---- the admission
 
 module _ (g : MempoolConfig) (a : Submission) (c : ℕ) (ins outs : List ℕ) (v : a .verdict ≡ Valid c) (l : Ledger) where
-  pub cost-is : costOf a ≡ poolCost c (a .size)
+  pub cost-is : submittedCost a ≡ costOf c (a .size)
   cost-is = ap (λ x. max (verdictCost x) (a .size)) v
 
-  base-is : baseOf g a outs ≡ poolBase g a c outs
+  base-is : submittedBase g a outs ≡ baseOf g a c outs
   base-is = ap (λ x. feePerFactor (g .«fee_strategy») (feeOf outs) (a .size) x) cost-is
 
   -- the pool's tables agree with the ledger that heard the outcome; whatever that was, the charge stands, and what next gave last
   pub record Settles (d : Admitted) : Type 0 where
-    pub book : SameBook (d .tables) (submitted g a ins outs (d .outcome) l .book)
-    pub rest : submitted g a ins outs (d .outcome) l ≡ withBook (submitted g a ins outs (d .outcome) l .book) (chargeFor a l)
+    pub book : SameBook (d .tables) (hearsSubmission g a ins outs (readingOf (d .outcome)) l .book)
+    pub rest : hearsSubmission g a ins outs (readingOf (d .outcome)) l ≡ withBook (hearsSubmission g a ins outs (readingOf (d .outcome)) l .book) (chargeFor a l)
 
   either : (t : Bool) (x y : Admitted) → Settles x → Settles y → Settles (pick t x y)
   either true x y p q = p
@@ -100,36 +99,37 @@ module _ (g : MempoolConfig) (a : Submission) (c : ℕ) (ins outs : List ℕ) (v
     ks = conflicts (index false (t .boxes)) (idsOf 5 ins)
 
     abbrev e : Entry
-    e = newcomer a c (poolBase g a c outs) ins outs
+    e = newcomer a c (baseOf g a c outs) ins outs
 
     gone : SameBook (removeAll ks t) (losersLeave (idsOf 5 ins) (l .book))
     gone = same-losers (idsOf 5 ins) t (l .book) s
 
-    in-book : SameBook (joined visitCap e ins outs (removeAll ks t)) (walks visitCap (poolBase g a c outs) (idOf (a .id)) (enters (idOf (a .id)) (poolBase g a c outs) (idsOf 5 ins) (idsOf 7 outs) (losersLeave (idsOf 5 ins) (l .book))))
-    unfolding joined newcomer
+    in-book : SameBook (joined visitCap e ins outs (removeAll ks t)) (walks visitCap (submittedBase g a outs) (idOf (a .id)) (entered g a ins outs (l .book)))
+    unfolding joined newcomer entered
     in-book =
-        same-propagated visitCap (poolBase g a c outs) (idOf (a .id)) _ _
-        (same-enter e (idsOf 5 ins) (idsOf 7 outs) (removeAll ks t) _ gone (still-new (idOf (a .id)) ks t new) refl (base-low (g .«fee_strategy») (feeOf outs) (a .size) (poolCost c (a .size))))
+        rw base-is
+        (same-propagated visitCap (baseOf g a c outs) (idOf (a .id)) _ _
+        (same-enter e (idsOf 5 ins) (idsOf 7 outs) (removeAll ks t) _ gone (still-new (idOf (a .id)) ks t new) refl (base-low (g .«fee_strategy») (feeOf outs) (a .size) (costOf c (a .size)))))
 
-    admits-same : SameBook (evict (g .capacity) (joined visitCap e ins outs (removeAll ks t))) (admitted g a ins outs l .book)
-    unfolding admitted admits chargeFor
-    admits-same = rw base-is (same-evict (g .capacity) _ _ in-book)
+    admits-same : SameBook (evict (g .capacity) (joined visitCap e ins outs (removeAll ks t))) (entersSubmission g a ins outs l .book)
+    unfolding entersSubmission chargeFor
+    admits-same = same-evict (g .capacity) _ _ in-book
 
     settles : (js : List ℕ) → Settles (settled (g .capacity) js (joined visitCap e ins outs (removeAll ks t)))
-    unfolding settled submitted admitted
+    unfolding settled hearsSubmission entersSubmission
     settles [] = record { book = admits-same; rest = refl }
     settles (j ∷ js) = record { book = admits-same; rest = refl }
 
     low : Settles (record { outcome = refused 10 0; tables = t; written = [] })
-    unfolding submitted turnedAway chargeFor
+    unfolding hearsSubmission turnedAway chargeFor
     low = record { book = s; rest = refl }
 
     lost : Settles (record { outcome = refused 29 (length ks); tables = t; written = ks })
-    unfolding submitted turnedAway chargeFor
+    unfolding hearsSubmission turnedAway chargeFor
     lost = record { book = s; rest = refl }
 
     full : Settles (record { outcome = refused 30 0; tables = removeAll ks t; written = [] })
-    unfolding submitted turnedAway chargeFor
+    unfolding hearsSubmission turnedAway chargeFor
     full = record { book = gone; rest = refl }
 
     pub admission-same : Settles (admitSpec visitCap g t a c ins outs)

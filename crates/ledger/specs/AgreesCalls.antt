@@ -15,7 +15,7 @@ use Rattle.pool_types.specs.declared.MempoolConfig.{MempoolConfig}
 use Rattle.pool_types.specs.declared.Pass.{Pass}
 use Rattle.pool_types.specs.declared.Verdict.{Verdict}
 use Rattle.pool_types.specs.declared.Verdict.the-variants.{Valid, Invalid, Absent}
-use Rattle.pool_types.specs.Outcomes.{Outcome, refused, done}
+use Rattle.pool_types.specs.Outcomes.{Outcome, refused, done, readingOf}
 use Rattle.arguments.specs.Arguments.{whole}
 use Rattle.stats.specs.declared.FeeStats.{FeeStats}
 use Rattle.expiring_cache.specs.Cache.{remember}
@@ -27,13 +27,11 @@ use Rattle.boxes.specs.Flat.{idsOf}
 use Rattle.pool.specs.Pool.{Tables, insertTx, removeTx}
 use Rattle.store.specs.World.{World, world, Result, unchanged, worldOf}
 use Rattle.store.specs.Fits.{Fits}
-use Rattle.returns.specs.Returns.{returnRefusal, returnedEntry, invalidated}
-use Rattle.returns.specs.Returns.{returned as poolReturned}
+use Rattle.returns.specs.Returns.{returnRefusal, returnedEntry, returned, invalidated}
 use Rattle.returns.specs.Post.{Meets}
 use Rattle.returns.specs.declared.UnconfirmedTx.{UnconfirmedTx}
 use Rattle.blocks.specs.Blocks.{Confirmed, confirmedOf, Progress, begun, BlockResult, appliedTx, appliedTxs, blockRefusal, settled, applied}
 use Rattle.cleanup.specs.Passes.{PassNow, passOf, noPass, PassResult, still, opened, firstDue, sought, nexted, answerRefusal, lacksInput, goes, answeredWith, weighed, answered}
-use Rattle.cleanup.specs.Passes.{offered as poolOffered}
 use Rattle.cleanup.specs.Post.{PassPost}
 use Rattle.lent.specs.Lent.{lentWorld, LentFits}
 use Rattle.lent.specs.Flat.{flatten}
@@ -43,7 +41,7 @@ use Rattle.ledger.specs.SameLaws.{same-enter, same-remove, same-stamped}
 use Rattle.ledger.specs.SameBlocks.{same-applied}
 use Rattle.ledger.specs.SameCharges.{same-none}
 use Rattle.ledger.specs.Admissions.{base-low}
-use Rattle.ledger.specs.Ledger.{Ledger, withBook, withGiven, isRefused, returned, confirmsAll, mined, offered, failed}
+use Rattle.ledger.specs.Ledger.{Ledger, withBook, withGiven, isRefused, entersReturn, confirmsAll, mined, givesNext, failed}
 use Rattle.ledger.specs.Run.{Moment, worldAt, FitsAt, Given, Applied, Invalidated, StateOnly, Opened, Offered, Answered}
 use Rattle.ledger.specs.Agrees.{SameWorld, Agrees, Remembers, lent-fits, lent-world, flat-at, world-at}
 
@@ -82,31 +80,31 @@ module _ (g : MempoolConfig) (E R : ℕ) (st : Mempool) (c : st .config ≡ g) (
   abbrev rn : ℕ
   rn = returnRefusal E R st (w .tables) u ins outs
 
-  enters-same : rn ≡ 0 → SameBook (insertTx (returnedEntry (st .config) u ins outs) (idsOf 4 ins) (idsOf 5 outs) (w .tables)) (returned g u ins outs l .book)
-  unfolding returned returnedEntry
+  enters-same : rn ≡ 0 → SameBook (insertTx (returnedEntry (st .config) u ins outs) (idsOf 4 ins) (idsOf 5 outs) (w .tables)) (entersReturn g u ins outs l .book)
+  unfolding entersReturn returnedEntry
   enters-same e =
       rw (← c)
       (same-enter (returnedEntry (st .config) u ins outs) _ _ (w .tables) (l .book) (s .book) (return-new E R st (w .tables) u ins outs e) refl (base-low (st .config .«fee_strategy») (u .fee) (u .size) (u .cost)))
 
-  return-world : SameWorld g (poolReturned E R st w u ins outs .world) (pick (isRefused (poolReturned E R st w u ins outs .outcome)) l (returned g u ins outs l))
-  unfolding poolReturned returned
+  return-world : SameWorld g (returned E R st w u ins outs .world) (pick (isRefused (readingOf (returned E R st w u ins outs .outcome))) l (entersReturn g u ins outs l))
+  unfolding returned entersReturn
   return-world = go (eqb rn 0) refl
     where
       go : (t : Bool) → eqb rn 0 ≡ t → SameWorld g (pick t (record { outcome = done; world = world (insertTx (returnedEntry (st .config) u ins outs) (idsOf 4 ins) (idsOf 5 outs) (w .tables)) (w .cache) (w .sum) (w .peers); written = [] }) (unchanged (refused rn 0) w) .world)
-          (pick (isRefused (pick t (record { outcome = done; world = world (insertTx (returnedEntry (st .config) u ins outs) (idsOf 4 ins) (idsOf 5 outs) (w .tables)) (w .cache) (w .sum) (w .peers); written = [] }) (unchanged (refused rn 0) w) .outcome)) l (returned g u ins outs l))
+          (pick (isRefused (readingOf (pick t (record { outcome = done; world = world (insertTx (returnedEntry (st .config) u ins outs) (idsOf 4 ins) (idsOf 5 outs) (w .tables)) (w .cache) (w .sum) (w .peers); written = [] }) (unchanged (refused rn 0) w) .outcome))) l (entersReturn g u ins outs l))
       go true e = record { book = enters-same (eqb-true rn 0 e); charges = s .charges; fair = s .fair }
       go false e = s
 
 pub return-agrees : (g : MempoolConfig) (m k : Moment) (l : Ledger) (u : UnconfirmedTx) (ins outs : List ℕ) (o : Outcome) → Agrees g m l → Given m k u ins outs o
-    → Agrees g k (pick (isRefused o) l (returned g u ins outs l))
-unfolding returned
+    → Agrees g k (pick (isRefused (readingOf o)) l (entersReturn g u ins outs l))
+unfolding entersReturn
 return-agrees g m k l u ins outs o s c =
-    let r : Result = poolReturned (entriesRoom (m .entries)) (boxesRoom (m .boxes)) (m .state) (worldAt m) u ins outs in
+    let r : Result = returned (entriesRoom (m .entries)) (boxesRoom (m .boxes)) (m .state) (worldAt m) u ins outs in
     let p : from-meets m k o r = rw (c .cache, c .peers, ← world-at m (s .fits)) (c .post (m .cache) (flatten (m .peers)) (flat-at m (s .fits))) in
     let w = return-world g (entriesRoom (m .entries)) (boxesRoom (m .boxes)) (m .state) (s .config) (worldAt m) l (s .world) u ins outs in
-    agrees-meets g m k l _ s o r (c .peers) p (rw (p .outcome) w) (same-given (isRefused o))
+    agrees-meets g m k l _ s o r (c .peers) p (rw (p .outcome) w) (same-given (isRefused (readingOf o)))
   where
-    same-given : (t : Bool) → pick t l (returned g u ins outs l) .given ≡ l .given
+    same-given : (t : Bool) → pick t l (entersReturn g u ins outs l) .given ≡ l .given
     same-given true = refl
     same-given false = refl
 
@@ -116,20 +114,20 @@ module _ (g : MempoolConfig) (st : Mempool) (w : World) (l : Ledger) (s : SameWo
   abbrev d : Result
   d = record { outcome = done; world = world (removeTx x (w .tables)) (remember (st .config .«invalidation_capacity») time x (w .cache)) (w .sum) (w .peers); written = [] }
 
-  invalidate-world : SameWorld g (invalidated st w time x .world) (pick (isRefused (invalidated st w time x .outcome)) l (withBook (leaves x (l .book)) l))
+  invalidate-world : SameWorld g (invalidated st w time x .world) (pick (isRefused (readingOf (invalidated st w time x .outcome))) l (withBook (leaves x (l .book)) l))
   unfolding invalidated
   invalidate-world = go (st .pass .open)
     where
-      go : (t : Bool) → SameWorld g (pick t (unchanged (refused 20 0) w) d .world) (pick (isRefused (pick t (unchanged (refused 20 0) w) d .outcome)) l (withBook (leaves x (l .book)) l))
+      go : (t : Bool) → SameWorld g (pick t (unchanged (refused 20 0) w) d .world) (pick (isRefused (readingOf (pick t (unchanged (refused 20 0) w) d .outcome))) l (withBook (leaves x (l .book)) l))
       go true = s
       go false = record { book = same-remove x (w .tables) (l .book) (s .book); charges = s .charges; fair = s .fair }
 
 pub invalidation-agrees : (g : MempoolConfig) (m k : Moment) (l : Ledger) (time x : ℕ) (o : Outcome) → Agrees g m l → Invalidated m k time x o
-    → Agrees g k (pick (isRefused o) l (withBook (leaves x (l .book)) l))
+    → Agrees g k (pick (isRefused (readingOf o)) l (withBook (leaves x (l .book)) l))
 invalidation-agrees g m k l time x o s c =
     let r : Result = invalidated (m .state) (worldAt m) time x in
     let p : from-meets m k o r = rw (c .peers, ← world-at m (s .fits)) (c .post (flatten (m .peers)) (flat-at m (s .fits))) in
-    agrees-meets g m k l _ s o r (c .peers) p (rw (p .outcome) (invalidate-world g (m .state) (worldAt m) l (s .world) time x)) (same-given (isRefused o))
+    agrees-meets g m k l _ s o r (c .peers) p (rw (p .outcome) (invalidate-world g (m .state) (worldAt m) l (s .world) time x)) (same-given (isRefused (readingOf o)))
   where
     same-given : (t : Bool) → pick t l (withBook (leaves x (l .book)) l) .given ≡ l .given
     same-given true = refl
@@ -149,16 +147,16 @@ module _ (g : MempoolConfig) (st : Mempool) (w : World) (f : FeeStats) (l : Ledg
   abbrev no : BlockResult
   no = record { result = unchanged (refused (blockRefusal st room txs ins) 0) w; stats = f }
 
-  block-world : SameWorld g (applied st w f room time txs ins .result .world) (pick (isRefused (applied st w f room time txs ins .result .outcome)) l (mined txs ins l))
+  block-world : SameWorld g (applied st w f room time txs ins .result .world) (pick (isRefused (readingOf (applied st w f room time txs ins .result .outcome))) l (mined txs ins l))
   unfolding applied settled mined
   block-world = go (eqb (blockRefusal st room txs ins) 0)
     where
-      go : (t : Bool) → SameWorld g (pick t (settled st w time p) no .result .world) (pick (isRefused (pick t (settled st w time p) no .result .outcome)) l (mined txs ins l))
+      go : (t : Bool) → SameWorld g (pick t (settled st w time p) no .result .world) (pick (isRefused (readingOf (pick t (settled st w time p) no .result .outcome))) l (mined txs ins l))
       go true = record { book = same-txs time (confirmedOf txs ins) (begun w f) (l .book) (s .book); charges = same-none; fair = tt }
       go false = s
 
 pub block-agrees : (g : MempoolConfig) (m k : Moment) (l : Ledger) (time : ℕ) (txs ins : List ℕ) (o : Outcome) → Agrees g m l → Applied m k time txs ins o
-    → Agrees g k (pick (isRefused o) l (mined txs ins l))
+    → Agrees g k (pick (isRefused (readingOf o)) l (mined txs ins l))
 unfolding mined
 block-agrees g m k l time txs ins o s c =
     let p = c .post (m .peers) (s .fits) in
@@ -167,7 +165,7 @@ block-agrees g m k l time txs ins o s c =
       fits = rw (c .peers) (p .fits);
       config = p .config ∙ s .config;
       world = rw (c .peers, p .world, e) (block-world g (m .state) (worldAt m) (m .stats) l (s .world) (length (c .was) / 4) time txs ins);
-      given = λ z. same-given (isRefused o) ∙ rw (← p .pass) at (s .given (rw (p .pass) at z));
+      given = λ z. same-given (isRefused (readingOf o)) ∙ rw (← p .pass) at (s .given (rw (p .pass) at z));
     }
   where
     same-given : (t : Bool) → pick t l (mined txs ins l) .given ≡ l .given

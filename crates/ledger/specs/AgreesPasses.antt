@@ -11,18 +11,17 @@ use Rattle.words.specs.Lists.{pick}
 use Rattle.pool_types.specs.declared.MempoolConfig.{MempoolConfig}
 use Rattle.pool_types.specs.declared.Verdict.{Verdict}
 use Rattle.pool_types.specs.declared.Verdict.the-variants.{Valid, Invalid, Absent}
-use Rattle.pool_types.specs.Outcomes.{Outcome, refused, done, missing}
+use Rattle.pool_types.specs.Outcomes.{Outcome, refused, done, missing, readingOf}
 use Rattle.boxes.specs.Records.{inputsOf}
 use Rattle.pool.specs.Pool.{removeTx}
 use Rattle.store.specs.World.{World}
-use Rattle.cleanup.specs.Passes.{PassNow, passOf, PassResult, still, opened, firstDue, sought, nexted, answerRefusal, lacksInput, goes, answeredWith, weighed, answered}
-use Rattle.cleanup.specs.Passes.{offered as poolOffered}
+use Rattle.cleanup.specs.Passes.{PassNow, passOf, PassResult, still, opened, firstDue, sought, nexted, offered, answerRefusal, lacksInput, goes, answeredWith, weighed, answered}
 use Rattle.cleanup.specs.Post.{PassPost}
 use Rattle.lent.specs.Flat.{flatten}
 use Rattle.ledger.specs.Book.{Book, leaves, allLeave}
 use Rattle.ledger.specs.Same.{SameBook}
 use Rattle.ledger.specs.SameLaws.{same-remove, same-stamped}
-use Rattle.ledger.specs.Ledger.{Ledger, withBook, withGiven, offered, failed}
+use Rattle.ledger.specs.Ledger.{Ledger, withBook, withGiven, givesNext, failed}
 use Rattle.ledger.specs.Run.{Moment, worldAt, FitsAt, Opened, Offered, Answered}
 use Rattle.ledger.specs.Agrees.{SameWorld, Agrees, lent-fits, lent-world, flat-at, world-at}
 use Rattle.ledger.specs.AgreesCalls.{zero-not}
@@ -68,17 +67,17 @@ module _ (g : MempoolConfig) (w : World) (p : PassNow) (l : Ledger) (s : SameWor
 
   -- ---- next
 
-  given-passes : (ks : List ℕ) → Passes g (poolOffered ks w p) (offered (poolOffered ks w p .outcome) l)
-  unfolding poolOffered offered
+  given-passes : (ks : List ℕ) → Passes g (offered ks w p) (givesNext (readingOf (offered ks w p .outcome)) l)
+  unfolding offered givesNext
   given-passes [] = record { world = s; given = λ q. false-true q }
   given-passes (k ∷ ks) = record { world = record { book = s .book; charges = s .charges; fair = s .fair }; given = λ q. refl }
 
-  either : (t : Bool) (x y : PassResult) → Passes g x (offered (x .outcome) l) → Passes g y (offered (y .outcome) l) → Passes g (pick t x y) (offered (pick t x y .outcome) l)
+  either : (t : Bool) (x y : PassResult) → Passes g x (givesNext (readingOf (x .outcome)) l) → Passes g y (givesNext (readingOf (y .outcome)) l) → Passes g (pick t x y) (givesNext (readingOf (pick t x y .outcome)) l)
   either true x y a b = a
   either false x y a b = b
 
-  next-passes : (c : MempoolConfig) → Passes g (nexted c w p) (offered (nexted c w p .outcome) l)
-  unfolding nexted sought offered
+  next-passes : (c : MempoolConfig) → Passes g (nexted c w p) (givesNext (readingOf (nexted c w p .outcome)) l)
+  unfolding nexted sought givesNext
   next-passes c =
       either (not (p .isOpen)) _ _ (record { world = s; given = h })
       (either (p .out) _ _ (record { world = record { book = s .book; charges = s .charges; fair = s .fair }; given = λ q. refl })
@@ -90,11 +89,11 @@ module _ (g : MempoolConfig) (w : World) (p : PassNow) (l : Ledger) (s : SameWor
   gone : (p .isOpen && p .out) ≡ true → SameBook (removeTx (p .candidate) (w .tables)) (allLeave (l .given) (l .book))
   gone q = rw (h q) (same-remove (p .candidate) (w .tables) (l .book) (s .book))
 
-  settle : (t : Bool) (x y : PassResult) → Passes g x (failed (x .outcome) l) → Passes g y (failed (y .outcome) l) → Passes g (pick t x y) (failed (pick t x y .outcome) l)
+  settle : (t : Bool) (x y : PassResult) → Passes g x (failed (readingOf (x .outcome)) l) → Passes g y (failed (readingOf (y .outcome)) l) → Passes g (pick t x y) (failed (readingOf (pick t x y .outcome)) l)
   settle true x y a b = a
   settle false x y a b = b
 
-  weighed-passes : (c : MempoolConfig) → (p .isOpen && p .out) ≡ true → (v : Verdict) → Passes g (weighed c w p v) (failed (weighed c w p v .outcome) l)
+  weighed-passes : (c : MempoolConfig) → (p .isOpen && p .out) ≡ true → (v : Verdict) → Passes g (weighed c w p v) (failed (readingOf (weighed c w p v .outcome)) l)
   unfolding weighed failed answeredWith
   weighed-passes c q Absent = record { world = s; given = h }
   weighed-passes c q Invalid = record { world = record { book = gone q; charges = s .charges; fair = s .fair }; given = λ z. none-out (p .isOpen) z }
@@ -104,13 +103,13 @@ module _ (g : MempoolConfig) (w : World) (p : PassNow) (l : Ledger) (s : SameWor
   unfolding answerRefusal
   is-out flags e = not-false _ (zero-not (not (p .isOpen && p .out)) 21 _ tt e .0)
 
-  answer-passes : (c : MempoolConfig) (flags : List ℕ) (v : Verdict) → Passes g (answered c w p flags v) (failed (answered c w p flags v .outcome) l)
+  answer-passes : (c : MempoolConfig) (flags : List ℕ) (v : Verdict) → Passes g (answered c w p flags v) (failed (readingOf (answered c w p flags v .outcome)) l)
   unfolding answered failed answeredWith
   answer-passes c flags v = go (eqb (answerRefusal w p flags) 0) refl
     where
       go : (t : Bool) → eqb (answerRefusal w p flags) 0 ≡ t
           → Passes g (pick t (pick (lacksInput w (p .candidate) flags) (goes (missing (p .candidate)) w p) (weighed c w p v)) (still (refused (answerRefusal w p flags) 0) w p))
-          (failed (pick t (pick (lacksInput w (p .candidate) flags) (goes (missing (p .candidate)) w p) (weighed c w p v)) (still (refused (answerRefusal w p flags) 0) w p) .outcome) l)
+          (failed (readingOf (pick t (pick (lacksInput w (p .candidate) flags) (goes (missing (p .candidate)) w p) (weighed c w p v)) (still (refused (answerRefusal w p flags) 0) w p) .outcome)) l)
       go true e =
           let q : (p .isOpen && p .out) ≡ true = is-out flags (eqb-true _ 0 e) in
           settle (lacksInput w (p .candidate) flags) _ _
@@ -128,16 +127,16 @@ module _ (g : MempoolConfig) (m k : Moment) (l : Ledger) (o : Outcome) (s : Agre
       rw (c .rest .entries, c .rest .boxes, c .rest .cache, c .rest .peers, ← world-at m (s .fits)) (c .post (m .entries) (m .boxes) (m .cache) (flatten (m .peers)) (flat-at m (s .fits))) in
       agrees-pass g m k l l o r s (c .rest .peers) p (open-passes g (worldAt m) (passOf (m .state .pass)) l (s .world) (s .given) time limit preheader)
 
-  pub next-agrees : Offered m k o → Agrees g k (offered o l)
+  pub next-agrees : Offered m k o → Agrees g k (givesNext (readingOf o) l)
   next-agrees c =
       let r : PassResult = nexted (m .state .config) (worldAt m) (passOf (m .state .pass)) in
       let p : PassPost (m .state) (k .state) o (k .entries) (k .boxes) (k .cache) (flatten (k .peers)) r =
       rw (c .rest .entries, c .rest .boxes, c .rest .cache, c .rest .peers, ← world-at m (s .fits)) (c .post (m .boxes) (m .cache) (flatten (m .peers)) (flat-at m (s .fits))) in
-      agrees-pass g m k l (offered o l) o r s (c .rest .peers) p (rw (p .outcome) (next-passes g (worldAt m) (passOf (m .state .pass)) l (s .world) (s .given) (m .state .config)))
+      agrees-pass g m k l (givesNext (readingOf o) l) o r s (c .rest .peers) p (rw (p .outcome) (next-passes g (worldAt m) (passOf (m .state .pass)) l (s .world) (s .given) (m .state .config)))
 
-  pub answer-agrees : (flags : List ℕ) (v : Verdict) → Answered m k flags v o → Agrees g k (failed o l)
+  pub answer-agrees : (flags : List ℕ) (v : Verdict) → Answered m k flags v o → Agrees g k (failed (readingOf o) l)
   answer-agrees flags v c =
       let r : PassResult = answered (m .state .config) (worldAt m) (passOf (m .state .pass)) flags v in
       let p : PassPost (m .state) (k .state) o (k .entries) (k .boxes) (k .cache) (flatten (k .peers)) r =
       rw (c .peers, ← world-at m (s .fits)) (c .post (flatten (m .peers)) (flat-at m (s .fits))) in
-      agrees-pass g m k l (failed o l) o r s (c .peers) p (rw (p .outcome) (answer-passes g (worldAt m) (passOf (m .state .pass)) l (s .world) (s .given) (m .state .config) flags v))
+      agrees-pass g m k l (failed (readingOf o) l) o r s (c .peers) p (rw (p .outcome) (answer-passes g (worldAt m) (passOf (m .state .pass)) l (s .world) (s .given) (m .state .config) flags v))

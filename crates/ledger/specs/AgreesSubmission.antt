@@ -18,7 +18,7 @@ use Rattle.pool_types.specs.declared.Source.{Source}
 use Rattle.pool_types.specs.declared.Source.the-variants.{Local, Peer}
 use Rattle.pool_types.specs.declared.Verdict.{Verdict}
 use Rattle.pool_types.specs.declared.Verdict.the-variants.{Valid, Invalid, Absent}
-use Rattle.pool_types.specs.Outcomes.{Outcome, refused}
+use Rattle.pool_types.specs.Outcomes.{Outcome, refused, declined, readingOf}
 use Rattle.arguments.specs.Arguments.{whole, records, feeOf, heightKey, aheadOf}
 use Rattle.expiring_cache.specs.Cache.{Held, held}
 use Rattle.peers.specs.Peers.{atLimit, noneFree, standing}
@@ -27,26 +27,23 @@ use Rattle.entries.specs.Entries.{Entry, pooled}
 use Rattle.entries.specs.Layout.{entriesRoom}
 use Rattle.boxes.specs.Layout.{boxesRoom}
 use Rattle.boxes.specs.Records.{index}
-use Rattle.indexes.specs.Resolved.{allResolved}
-use Rattle.indexes.specs.Resolved.{submitted as asInputs}
+use Rattle.indexes.specs.Resolved.{allResolved, submitted}
 use Rattle.pool.specs.Pool.{Tables, noRoom}
 use Rattle.store.specs.World.{World, Result, unchanged}
 use Rattle.checks.specs.Checks.{dear, remote, first, callRefusal, peerRefusal, stateRefusal, listRefusal, refusalOf}
 use Rattle.checks.specs.Passed.{Passed, Welcome, passed}
-use Rattle.admit.specs.Admit.{Admitted, admitSpec}
-use Rattle.admit.specs.Admit.{costOf as poolCost}
-use Rattle.process.specs.Process.{standingOf, judged, processed}
-use Rattle.process.specs.Process.{admitted as poolAdmitted}
+use Rattle.admit.specs.Admit.{Admitted, costOf, admitSpec}
+use Rattle.process.specs.Process.{standingOf, admitted, judged, processed}
 use Rattle.process.specs.Post.{limitsOf}
 use Rattle.lent.specs.Post.{lentResult}
 use Rattle.ledger.specs.Charges.{Charge, charges, totalCharged, chargedTo, Fair}
 use Rattle.ledger.specs.Same.{SameBook}
 use Rattle.ledger.specs.SameCharges.{SameCharges, Below, same-charge}
 use Rattle.ledger.specs.ChargeRefusals.{met-limit}
-use Rattle.ledger.specs.Ledger.{Ledger, withBook, visitCap, costOf, chargeFor, turnedAway, submitted}
+use Rattle.ledger.specs.Ledger.{Ledger, withBook, visitCap, submittedCost, chargeFor, turnedAway, hearsSubmission}
 use Rattle.ledger.specs.Admissions.{cost-is, Settles, admission-same}
 use Rattle.ledger.specs.Limited.{submission-limits}
-use Rattle.ledger.specs.Demand3.{Limits}
+use Rattle.ledger.specs.Demand3.{FailsExactly}
 use Rattle.ledger.specs.Run.{Moment, worldAt, FitsAt, Submitted}
 use Rattle.ledger.specs.Agrees.{Bounds, SameWorld, Agrees, Remembers, used-is}
 
@@ -96,7 +93,7 @@ module _ (most E R room : ℕ) (st : Mempool) (t : Tables) (rows : List Held) (a
   list-quiet =
       gives (ltb most (records 5 ins)) 7 _ refl refl
       (gives (noRoom E R t (records 5 ins + records 7 outs)) 27 _ refl refl
-      (gives (not (allResolved (index true (t .boxes)) (asInputs ins))) 28 _ refl refl
+      (gives (not (allResolved (index true (t .boxes)) (submitted ins))) 28 _ refl refl
       (gives (aheadOf (heightKey 7 6 outs) (a .preheader)) 8 _ refl refl none)))
 
   refusal-quiet : Quiet (refusalOf most E R st room t rows at a ins outs)
@@ -107,8 +104,8 @@ module _ (most E R room : ℕ) (st : Mempool) (t : Tables) (rows : List Held) (a
       call-quiet
 
 -- the ledger does not hear of them
-quiet-same : (g : MempoolConfig) (a : Submission) (ins outs : List ℕ) (n : ℕ) (l : Ledger) → Quiet n → submitted g a ins outs (refused n 0) l ≡ l
-unfolding submitted turnedAway
+quiet-same : (g : MempoolConfig) (a : Submission) (ins outs : List ℕ) (n : ℕ) (l : Ledger) → Quiet n → hearsSubmission g a ins outs (declined n 0) l ≡ l
+unfolding hearsSubmission turnedAway
 quiet-same g a ins outs n l q = rw (q .low, q .full)
 
 -- ---- what a submission leaves of pool and ledger
@@ -147,38 +144,38 @@ module _ (g : MempoolConfig) (bounds : Bounds g) (m : Moment) (l : Ledger) (s : 
       go (no x) z = omega (arith, x)
 
   module _ (p : Passed 5000 (m .entries) (m .boxes) st room at a ins outs) where
-    admits : (c : ℕ) (v : a .verdict ≡ Valid c) → Keeps g (poolAdmitted (admitSpec visitCap g (w .tables) a c ins outs) w a c .world) l (submitted g a ins outs (admitSpec visitCap g (w .tables) a c ins outs .outcome) l)
+    admits : (c : ℕ) (v : a .verdict ≡ Valid c) → Keeps g (admitted (admitSpec visitCap g (w .tables) a c ins outs) w a c .world) l (hearsSubmission g a ins outs (readingOf (admitSpec visitCap g (w .tables) a c ins outs .outcome)) l)
     unfolding chargeFor
     admits c v =
         let d : Admitted = admitSpec visitCap g (w .tables) a c ins outs in
         let z : Settles g a c ins outs v l d = admission-same g a c ins outs v l (w .tables) (s .world .book) (p .new) in
-        let k : ℕ = poolCost c (a .size) in
+        let k : ℕ = costOf c (a .size) in
         let small : k < 2 ^ 32 = omega (arith, p .size, p .cost c v) in
         let q = same-charge (g .«cost_per_block») (g .«cost_per_peer_per_block») (bounds .block) (bounds .peer) (a .source) k small (s .world .charges) (s .world .fair) (below (a .source) (p .welcome)) in
-        let e : submitted g a ins outs (d .outcome) l .charged ≡ charges (a .source) k (l .charged) = ap (λ (x : Ledger). x .charged) (z .rest) ∙ ap (λ x. charges (a .source) x (l .charged)) (cost-is g a c ins outs v l) in
+        let e : hearsSubmission g a ins outs (readingOf (d .outcome)) l .charged ≡ charges (a .source) k (l .charged) = ap (λ (x : Ledger). x .charged) (z .rest) ∙ ap (λ x. charges (a .source) x (l .charged)) (cost-is g a c ins outs v l) in
         record {
           same = record { book = z .book; charges = rw e (q .0); fair = rw e (q .1) };
           given = ap (λ (x : Ledger). x .given) (z .rest);
         }
 
-    judges : (v : Verdict) → a .verdict ≡ v → Keeps g (judged visitCap st w a ins outs v .world) l (submitted g a ins outs (judged visitCap st w a ins outs v .outcome) l)
-    unfolding judged submitted turnedAway
+    judges : (v : Verdict) → a .verdict ≡ v → Keeps g (judged visitCap st w a ins outs v .world) l (hearsSubmission g a ins outs (readingOf (judged visitCap st w a ins outs v .outcome)) l)
+    unfolding judged hearsSubmission turnedAway
     judges Absent e = record { same = s .world; given = refl }
     judges Invalid e = record { same = record { book = s .world .book; charges = s .world .charges; fair = s .world .fair }; given = refl }
     judges (Valid c) e = rw (s .config) (admits c e)
 
-  keeps : Keeps g (processed (limitsOf (m .entries) (m .boxes)) st w room a ins outs .world) l (submitted g a ins outs (processed (limitsOf (m .entries) (m .boxes)) st w room a ins outs .outcome) l)
+  keeps : Keeps g (processed (limitsOf (m .entries) (m .boxes)) st w room a ins outs .world) l (hearsSubmission g a ins outs (readingOf (processed (limitsOf (m .entries) (m .boxes)) st w room a ins outs .outcome)) l)
   unfolding processed
   keeps = go (eqb n 0) refl
     where
-      go : (t : Bool) → eqb n 0 ≡ t → Keeps g (pick t (judged visitCap st w a ins outs (a .verdict)) (unchanged (refused n 0) w) .world) l (submitted g a ins outs (pick t (judged visitCap st w a ins outs (a .verdict)) (unchanged (refused n 0) w) .outcome) l)
+      go : (t : Bool) → eqb n 0 ≡ t → Keeps g (pick t (judged visitCap st w a ins outs (a .verdict)) (unchanged (refused n 0) w) .world) l (hearsSubmission g a ins outs (readingOf (pick t (judged visitCap st w a ins outs (a .verdict)) (unchanged (refused n 0) w) .outcome)) l)
       go true e = judges (passed 5000 (m .entries) (m .boxes) st room (w .cache) at a ins outs (s .fits .ready .tests .pool) (eqb-true n 0 e)) (a .verdict) refl
       go false e = rw (quiet-same g a ins outs n l (refusal-quiet 5000 (entriesRoom (m .entries)) (boxesRoom (m .boxes)) room st (w .tables) (w .cache) at a ins outs)) (record { same = s .world; given = refl })
 
 -- ---- the call
 
 pub submission-agrees : (g : MempoolConfig) → Bounds g → (m k : Moment) (l : Ledger) (a : Submission) (ins outs : List ℕ) (o : Outcome) → Agrees g m l → Submitted m k a ins outs o
-    → Agrees g k (submitted g a ins outs o l) × Limits g (a .source) o (l .charged)
+    → Agrees g k (hearsSubmission g a ins outs (readingOf o) l) × FailsExactly g (a .source) (readingOf o) (l .charged)
 submission-agrees g bounds m k l a ins outs o s c =
     let p = c .post (s .fits) in
     let r : Result = lentResult (m .entries) (m .boxes) (m .cache) (m .peers) (c .was) (m .state) a ins outs in

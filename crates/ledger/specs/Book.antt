@@ -33,8 +33,8 @@ book ts ss ps = record { txs = ts; spenders = ss; producers = ps }
 
 -- ---- weights: "the base plus the credits granted since it last entered, capped at 2^64−1"
 
-unfoldable pub weightOf : Tx → ℕ
-weightOf t = capped (t .base + total (t .credits))
+unfoldable pub txWeight : Tx → ℕ
+txWeight t = capped (t .base + total (t .credits))
 
 -- ---- both indexes "by the pool's rule": "Each box has at most one spender and one producer in the indexes: the last inserted. Removing a transaction
 -- drops the index entries that name it; an older one is not put back."
@@ -73,9 +73,9 @@ losersLeave ins b = allLeave (flat (lookup (b .spenders)) ins) b
 abbrev pub creditTx : ℕ → ℕ → Tx → Tx
 creditTx c k t = record { id = t .id; base = t .base; ins = t .ins; outs = t .outs; credits = pick (eqb (t .id) k) (c ∷ t .credits) (t .credits) }
 
-abbrev pub credited : ℕ → List ℕ → Book → Book
-credited c [] b = b
-credited c (k ∷ ks) b = credited c ks (book (map (creditTx c k) (b .txs)) (b .spenders) (b .producers))
+abbrev pub creditsTo : ℕ → List ℕ → Book → Book
+creditsTo c [] b = b
+creditsTo c (k ∷ ks) b = creditsTo c ks (book (map (creditTx c k) (b .txs)) (b .spenders) (b .producers))
 
 abbrev pub insOf : ℕ → List Tx → List ℕ
 insOf k [] = []
@@ -96,30 +96,25 @@ parentsIn b k = flat (lookup (b .producers)) (insOf k (b .txs))
 
 -- the walk of the newcomer k with the base c, of so many visits at most
 unfoldable pub walks : ℕ → ℕ → ℕ → Book → Book
-walks visits c k b = credited c (walked (parentsIn b) visits k) b
+walks visits c k b = creditsTo c (walked (parentsIn b) visits k) b
 
 -- ---- "eviction of the lowest until the capacity is met"
 
 -- the lowest of x and those in the list: the one that every other is ahead of
 abbrev pub lowestOf : Tx → List Tx → Tx
 lowestOf x [] = x
-lowestOf x (y ∷ ys) = pick (ahead (weightOf (lowestOf y ys)) (lowestOf y ys .id) (weightOf x) (x .id)) x (lowestOf y ys)
+lowestOf x (y ∷ ys) = pick (ahead (txWeight (lowestOf y ys)) (lowestOf y ys .id) (txWeight x) (x .id)) x (lowestOf y ys)
 
 abbrev pub lowestId : List Tx → ℕ
 lowestId [] = 0
 lowestId (x ∷ xs) = lowestOf x xs .id
 
-abbrev pub trimmed : ℕ → ℕ → Book → Book
-trimmed zero n b = b
-trimmed (suc f) n b = pick (leb (length (b .txs)) n) b (trimmed f n (leaves (lowestId (b .txs)) b))
+abbrev pub trims : ℕ → ℕ → Book → Book
+trims zero n b = b
+trims (suc f) n b = pick (leb (length (b .txs)) n) b (trims f n (leaves (lowestId (b .txs)) b))
 
 unfoldable pub evicts : ℕ → Book → Book
-evicts n b = trimmed (length (b .txs)) n b
-
--- ---- a submission that is admitted: "losers go; .. insert, credits, eviction of the lowest until the capacity is met"
-
-unfoldable pub admits : ℕ → ℕ → ℕ → ℕ → List ℕ → List ℕ → Book → Book
-admits visits capacity k base ins outs b = evicts capacity (walks visits base k (enters k base ins outs (losersLeave ins b)))
+evicts n b = trims (length (b .txs)) n b
 
 -- ---- a block: "those a block removes leave when and as this document's rules say"
 
@@ -148,8 +143,8 @@ abbrev pair : ℕ → ℕ → Pair
 pair b k = record { box = b; id = k }
 
 -- credits add up, and the cap holds once
-weight-edge : (weightOf (tx 1 30 [] [] (5 ∷ 6 ∷ [])) ≡ 41) × (weightOf (tx 1 cap [] [] (1 ∷ [])) ≡ cap)
-unfolding weightOf
+weight-edge : (txWeight (tx 1 30 [] [] (5 ∷ 6 ∷ [])) ≡ 41) × (txWeight (tx 1 cap [] [] (1 ∷ [])) ≡ cap)
+unfolding txWeight
 weight-edge = (refl, refl)
 
 -- 3 spends 9: its walk credits 2 and 1; a second spender of 8 takes the index's entry, and nobody gets it back
@@ -163,5 +158,5 @@ not-put-back = refl
 
 -- the lowest goes first; of a block that confirms another spender of 8, transaction 2 is driven out
 lowest-edge : (evicts 1 two ≡ enters 1 30 (7 ∷ []) (8 ∷ []) (book [] [] [])) × (confirms 6 (8 ∷ 8 ∷ []) two .txs ≡ tx 1 30 (7 ∷ []) (8 ∷ []) [] ∷ [])
-unfolding evicts leaves enters confirms weightOf ahead
+unfolding evicts leaves enters confirms txWeight ahead
 lowest-edge = (refl, refl)

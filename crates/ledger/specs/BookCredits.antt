@@ -16,7 +16,7 @@ use Rattle.words.specs.Sums.{capped, total}
 use Rattle.boxes.specs.Among.{eqb-comm}
 use Rattle.family.specs.Walk.{level, upto, upto-last, none-below}
 use Rattle.family.specs.Chains.{walked, over, chains, level-lists-ends, no-longer-chain, once-for-every-chain}
-use Rattle.ledger.specs.Book.{Tx, Book, book, weightOf, creditTx, credited, parentsIn, walks}
+use Rattle.ledger.specs.Book.{Tx, Book, book, txWeight, creditTx, creditsTo, parentsIn, walks}
 
 -- ---- so many credits of c for each id
 
@@ -46,7 +46,7 @@ none-granted c [] = refl
 none-granted c (t ∷ ts) = ap (λ (r : List Tx). t ∷ r) (none-granted c ts)
 
 -- Each transaction is given c once for each time that its id is listed, and nothing else of the book changes.
-pub credited-is : (c : ℕ) (ks : List ℕ) (b : Book) → credited c ks b ≡ grantedAll c (λ j. count j ks) b
+pub credited-is : (c : ℕ) (ks : List ℕ) (b : Book) → creditsTo c ks b ≡ grantedAll c (λ j. count j ks) b
 credited-is c [] b = λ i. book (none-granted c (b .txs) i) (b .spenders) (b .producers)
 credited-is c (k ∷ ks) b = credited-is c ks (book (map (creditTx c k) (b .txs)) (b .spenders) (b .producers)) ∙ λ i. book (credit-more c k ks (b .txs) i) (b .spenders) (b .producers)
 
@@ -62,7 +62,7 @@ granted-found c n k (t ∷ ts) = go (eqb (t .id) k) refl (granted-found c n k ts
     go false q ih = ih
 
 pub credits-of : (c : ℕ) (ks : List ℕ) (b : Book) (k : ℕ)
-    → map (λ t. t .credits) (found (λ t. t .id) k (credited c ks b .txs)) ≡ map (λ t. replicate (count k ks) c ++ t .credits) (found (λ t. t .id) k (b .txs))
+    → map (λ t. t .credits) (found (λ t. t .id) k (creditsTo c ks b .txs)) ≡ map (λ t. replicate (count k ks) c ++ t .credits) (found (λ t. t .id) k (b .txs))
 credits-of c ks b k = rw (credited-is c ks b) (granted-found c (λ j. count j ks) k (b .txs))
 
 -- ---- chains end: after an empty level nothing comes, however far one counts
@@ -108,6 +108,6 @@ total-more : (n c : ℕ) (cs : List ℕ) → total (replicate n c ++ cs) ≡ n *
 total-more zero c cs = rw (zero-mul c) (sym (zero-add (total cs)))
 total-more (suc n) c cs = rw (suc-mul n c) (omega (arith, total-more n c cs))
 
-pub granted-weight : (c : ℕ) (n : ℕ → ℕ) (t : Tx) → weightOf (granted c n t) ≡ capped (t .base + (n (t .id) * c + total (t .credits)))
-unfolding weightOf
+pub granted-weight : (c : ℕ) (n : ℕ → ℕ) (t : Tx) → txWeight (granted c n t) ≡ capped (t .base + (n (t .id) * c + total (t .credits)))
+unfolding txWeight
 granted-weight c n t = ap (λ x. capped (t .base + x)) (total-more (n (t .id)) c (t .credits))

@@ -13,18 +13,17 @@ use Rattle.pool_types.specs.declared.MempoolConfig.{MempoolConfig}
 use Rattle.pool_types.specs.declared.Submission.{Submission}
 use Rattle.pool_types.specs.declared.Source.{Source}
 use Rattle.pool_types.specs.declared.Source.the-variants.{Local, Peer}
-use Rattle.pool_types.specs.Outcomes.{Outcome, refused, done, wrote, needed, candidate, ended, missing, invalid, valid, number, said, entry, none}
+use Rattle.pool_types.specs.Outcomes.{Reading, declined, did, offers, fails, tells, readingOf}
 use Rattle.entries.specs.Entries.{Entry, pooled}
 use Rattle.entries.specs.Entries.{weightOf as entryWeight, keyOf as entryId}
 use Rattle.entries.specs.InOrder.{Strict}
 use Rattle.boxes.specs.Among.{among}
-use Rattle.boxes.specs.Flat.{idsOf}
 use Rattle.boxes.specs.Records.{BoxRec, Pair, index, inputsOf}
 use Rattle.pool.specs.Pool.{Tables}
 use Rattle.family.specs.Chains.{over, chains}
-use Rattle.ledger.specs.Book.{Tx, Book, weightOf, losersLeave, enters, walks, parentsIn}
+use Rattle.ledger.specs.Book.{Tx, Book, txWeight, walks, evicts, parentsIn}
 use Rattle.ledger.specs.Charges.{Charge, totalCharged, chargedTo, payers, Fair}
-use Rattle.ledger.specs.Ledger.{Call, Submit, Return, Block, Invalidate, Open, Next, Answer, Start, Ask, Ledger, visitCap, baseOf, Heard, told}
+use Rattle.ledger.specs.Ledger.{Call, Submit, Return, Block, Invalidate, Open, Next, Answer, Start, Ask, Ledger, visitCap, submittedBase, entered, Heard, told}
 use Rattle.ledger.specs.Uses.{outputsOf}
 use Rattle.ledger.specs.Run.{Moment, worldAt}
 
@@ -57,52 +56,33 @@ Names boxesOf t (p ∷ ps) = (pooled (p .id) (t .entries) ≡ true) × (among (p
 
 -- ---- "a family walk that ended with no parent left credited once for every chain of spends"
 
--- the newcomer has entered, and its walk has not begun: "In demand 3's ledger at that moment, before eviction"
-abbrev pub entered : MempoolConfig → Submission → List ℕ → List ℕ → Ledger → Book
-entered g a ins outs l = enters (idOf (a .id)) (baseOf g a outs) (idsOf 5 ins) (idsOf 7 outs) (losersLeave (idsOf 5 ins) (l .book))
+-- the walk of transaction k, of base c, on the book b: eviction left of it the book that is `after`; and if it ended with no parent left, each transaction j
+-- got c once for every chain of spends that ends at it, however long chains may be
+pub record WalkCredits (capacity c k : ℕ) (b after : Book) : Type 0 where
+  pub made : after ≡ evicts capacity (walks visitCap c k b)
+  pub once : over (parentsIn b) visitCap k ≡ [] → (longest : ℕ) → visitCap ≤ longest → (j : ℕ)
+      → map (λ t. t .credits) (found (λ t. t .id) j (walks visitCap c k b .txs))
+      ≡ map (λ t. replicate (count j (chains (parentsIn b) visitCap k longest)) c ++ t .credits) (found (λ t. t .id) j (b .txs))
 
--- the walk of transaction k, of base c, ended with no parent left: each transaction j got c once for every chain of spends that ends at it, however long
--- chains may be
-abbrev pub OncePerChain : ℕ → ℕ → Book → Type 0
-OncePerChain c k b =
-    over (parentsIn b) visitCap k ≡ [] → (longest : ℕ) → visitCap ≤ longest → (j : ℕ)
-    → map (λ t. t .credits) (found (λ t. t .id) j (walks visitCap c k b .txs))
-    ≡ map (λ t. replicate (count j (chains (parentsIn b) visitCap k longest)) c ++ t .credits) (found (λ t. t .id) j (b .txs))
-
--- a submission that entered
-abbrev pub CreditsChains : MempoolConfig → Submission → List ℕ → List ℕ → Outcome → Ledger → Type 0
-CreditsChains g a ins outs done l = OncePerChain (baseOf g a outs) (idOf (a .id)) (entered g a ins outs l)
-CreditsChains g a ins outs (wrote n) l = OncePerChain (baseOf g a outs) (idOf (a .id)) (entered g a ins outs l)
-CreditsChains g a ins outs (refused n k) l = Unit {0}
-CreditsChains g a ins outs needed l = Unit {0}
-CreditsChains g a ins outs (candidate k) l = Unit {0}
-CreditsChains g a ins outs (ended n) l = Unit {0}
-CreditsChains g a ins outs (missing k) l = Unit {0}
-CreditsChains g a ins outs (invalid k) l = Unit {0}
-CreditsChains g a ins outs (valid k) l = Unit {0}
-CreditsChains g a ins outs (number n) l = Unit {0}
-CreditsChains g a ins outs (said t) l = Unit {0}
-CreditsChains g a ins outs (entry k w b) l = Unit {0}
-CreditsChains g a ins outs none l = Unit {0}
+-- a submission that entered, where the book before the call was b: its walk ran on the book that it had entered ("In demand 3's ledger at that moment,
+-- before eviction")
+abbrev pub CreditsChains : MempoolConfig → Submission → List ℕ → List ℕ → Reading → Book → Book → Type 0
+CreditsChains g a ins outs (did n) b after = WalkCredits (g .capacity) (submittedBase g a outs) (idOf (a .id)) (entered g a ins outs b) after
+CreditsChains g a ins outs (declined n k) b after = Unit {0}
+CreditsChains g a ins outs (offers k) b after = Unit {0}
+CreditsChains g a ins outs (fails k) b after = Unit {0}
+CreditsChains g a ins outs tells b after = Unit {0}
 
 -- ---- "a submission that no earlier check refused fails 24 exactly if it is remote and that total is at its limit or above, 25 exactly if remote and its
 -- peer's sum is, 26 exactly if remote, its peer has had no charge since then and 256 others have"
 
--- the outcome is a refusal with one of these numbers
-abbrev pub refusedBy : List ℕ → Outcome → Bool
-refusedBy ns (refused n k) = among n ns
-refusedBy ns done = false
-refusedBy ns (wrote n) = false
-refusedBy ns needed = false
-refusedBy ns (candidate k) = false
-refusedBy ns (ended n) = false
-refusedBy ns (missing k) = false
-refusedBy ns (invalid k) = false
-refusedBy ns (valid k) = false
-refusedBy ns (number n) = false
-refusedBy ns (said t) = false
-refusedBy ns (entry k w b) = false
-refusedBy ns none = false
+-- it was refused with one of these numbers
+abbrev pub refusedBy : List ℕ → Reading → Bool
+refusedBy ns (declined n k) = among n ns
+refusedBy ns (did n) = false
+refusedBy ns (offers k) = false
+refusedBy ns (fails k) = false
+refusedBy ns tells = false
 
 -- it is remote, and its peer passes a test
 abbrev pub remoteWith : Source → (ℕ → Bool) → Bool
@@ -113,28 +93,28 @@ remoteWith (Peer p) test = test p
 abbrev pub earlier : List ℕ
 earlier = 20 ∷ 1 ∷ 2 ∷ 3 ∷ 4 ∷ 5 ∷ 22 ∷ 23 ∷ []
 
--- of a submission from `from` with this outcome, where these were the charges since the last block
-pub record Limits (g : MempoolConfig) (from : Source) (o : Outcome) (cs : List Charge) : Type 0 where
-  pub fails-24 : refusedBy earlier o ≡ false → refusedBy (24 ∷ []) o ≡ remoteWith from (λ p. leb (g .«cost_per_block») (totalCharged cs))
-  pub fails-25 : refusedBy (24 ∷ earlier) o ≡ false → refusedBy (25 ∷ []) o ≡ remoteWith from (λ p. leb (g .«cost_per_peer_per_block») (chargedTo p cs))
-  pub fails-26 : refusedBy (25 ∷ 24 ∷ earlier) o ≡ false → refusedBy (26 ∷ []) o ≡ remoteWith from (λ p. not (among p (payers cs)) && leb 256 (length (payers cs)))
+-- of a submission from `from`, of whose outcome r is read, where these were the charges since the last block
+pub record FailsExactly (g : MempoolConfig) (from : Source) (r : Reading) (cs : List Charge) : Type 0 where
+  pub fails-24 : refusedBy earlier r ≡ false → refusedBy (24 ∷ []) r ≡ remoteWith from (λ p. leb (g .«cost_per_block») (totalCharged cs))
+  pub fails-25 : refusedBy (24 ∷ earlier) r ≡ false → refusedBy (25 ∷ []) r ≡ remoteWith from (λ p. leb (g .«cost_per_peer_per_block») (chargedTo p cs))
+  pub fails-26 : refusedBy (25 ∷ 24 ∷ earlier) r ≡ false → refusedBy (26 ∷ []) r ≡ remoteWith from (λ p. not (among p (payers cs)) && leb 256 (length (payers cs)))
 
--- ---- of every call in the list, with the ledger as it was before
+-- ---- of every submission in the list, with the ledger before the call and after it
 
-abbrev pub ofSubmission : (Submission → List ℕ → List ℕ → Type 0) → Call → Type 0
-ofSubmission P (Submit a ins outs) = P a ins outs
-ofSubmission P (Return u ins outs) = Unit {0}
-ofSubmission P (Block time txs ins) = Unit {0}
-ofSubmission P (Invalidate time k) = Unit {0}
-ofSubmission P (Open time limit preheader) = Unit {0}
-ofSubmission P Next = Unit {0}
-ofSubmission P (Answer flags v) = Unit {0}
-ofSubmission P (Start time c) = Unit {0}
-ofSubmission P (Ask q) = Unit {0}
+abbrev pub ofSubmit : (Submission → List ℕ → List ℕ → Type 0) → Call → Type 0
+ofSubmit P (Submit a ins outs) = P a ins outs
+ofSubmit P (Return u ins outs) = Unit {0}
+ofSubmit P (Block time txs ins) = Unit {0}
+ofSubmit P (Invalidate time k) = Unit {0}
+ofSubmit P (Open time limit preheader) = Unit {0}
+ofSubmit P Next = Unit {0}
+ofSubmit P (Answer flags v) = Unit {0}
+ofSubmit P (Start time c) = Unit {0}
+ofSubmit P (Ask q) = Unit {0}
 
-abbrev pub everySubmission : (Submission → List ℕ → List ℕ → Outcome → Ledger → Type 0) → MempoolConfig → List Heard → Type 0
+abbrev pub everySubmission : (Submission → List ℕ → List ℕ → Reading → Ledger → Ledger → Type 0) → MempoolConfig → List Heard → Type 0
 everySubmission P g [] = Unit {0}
-everySubmission P g (x ∷ h) = ofSubmission (λ a ins outs. P a ins outs (x .outcome) (told g h)) (x .call) × everySubmission P g h
+everySubmission P g (x ∷ h) = ofSubmit (λ a ins outs. P a ins outs (readingOf (x .outcome)) (told g h) (told g (x ∷ h))) (x .call) × everySubmission P g h
 
 -- ---- demand 3
 
@@ -153,10 +133,10 @@ pub record Demand3 (g : MempoolConfig) (h : List Heard) (m : Moment) : Type 0 wh
   pub named-spenders : Names inputsOf (worldAt m .tables) (index false (worldAt m .tables .boxes))
   pub named-producers : Names outputsOf (worldAt m .tables) (index true (worldAt m .tables .boxes))
   -- each weight the base plus the credits granted since it last entered, capped at 2^64−1
-  pub weights : (k : ℕ) → map entryWeight (found (λ e. e .id) k (worldAt m .tables .entries)) ≡ map weightOf (found (λ t. t .id) k (told g h .book .txs))
+  pub weights : (k : ℕ) → map entryWeight (found (λ e. e .id) k (worldAt m .tables .entries)) ≡ map txWeight (found (λ t. t .id) k (told g h .book .txs))
   -- a family walk that ended with no parent left credited once for every chain of spends
-  pub chains : everySubmission (CreditsChains g) g h
+  pub chains : everySubmission (λ a ins outs r l k. CreditsChains g a ins outs r (l .book) (k .book)) g h
   -- since the last block not refused, or the start, each charge found the total and its peer's sum below their limits
   pub charges : Fair (g .«cost_per_block») (g .«cost_per_peer_per_block») (told g h .charged)
   -- 24, 25 and 26
-  pub refusals : everySubmission (λ a ins outs o l. Limits g (a .source) o (l .charged)) g h
+  pub refusals : everySubmission (λ a ins outs r l k. FailsExactly g (a .source) r (l .charged)) g h

@@ -14,13 +14,13 @@ use Rattle.pool_types.specs.declared.MempoolConfig.{MempoolConfig}
 use Rattle.pool_types.specs.declared.Submission.{Submission}
 use Rattle.pool_types.specs.declared.Verdict.{Verdict}
 use Rattle.pool_types.specs.declared.Verdict.the-variants.{Valid, Invalid, Absent}
-use Rattle.pool_types.specs.Outcomes.{Outcome, refused, done, wrote, needed, candidate, ended, missing, invalid, valid, number, said, entry, none}
+use Rattle.pool_types.specs.Outcomes.{Outcome, Reading, declined, did, offers, fails, tells, readingOf}
 use Rattle.weight.specs.Weight.{feePerFactor}
 use Rattle.arguments.specs.Arguments.{feeOf}
 use Rattle.boxes.specs.Flat.{idsOf}
 use Rattle.returns.specs.declared.UnconfirmedTx.{UnconfirmedTx}
 use Rattle.blocks.specs.Blocks.{Confirmed, confirmedOf}
-use Rattle.ledger.specs.Book.{Book, book, enters, leaves, allLeave, losersLeave, admits, confirms}
+use Rattle.ledger.specs.Book.{Book, book, enters, leaves, allLeave, losersLeave, walks, evicts, confirms}
 use Rattle.ledger.specs.Charges.{Charge, charges}
 
 -- ---- the calls, with their arguments
@@ -92,21 +92,26 @@ verdictCost (Valid c) = c
 verdictCost Invalid = 0
 verdictCost Absent = 0
 
-abbrev pub costOf : Submission → ℕ
-costOf a = max (verdictCost (a .verdict)) (a .size)
+abbrev pub submittedCost : Submission → ℕ
+submittedCost a = max (verdictCost (a .verdict)) (a .size)
 
 -- its base: "Fee = sum of flagged values"
-abbrev pub baseOf : MempoolConfig → Submission → List ℕ → ℕ
-baseOf g a outs = feePerFactor (g .«fee_strategy») (feeOf outs) (a .size) (costOf a)
+abbrev pub submittedBase : MempoolConfig → Submission → List ℕ → ℕ
+submittedBase g a outs = feePerFactor (g .«fee_strategy») (feeOf outs) (a .size) (submittedCost a)
 
 -- "Outcomes `Accepted`, `Replaced`, 10, 29 and 30 charge a remote submission its cost"
 unfoldable pub chargeFor : Submission → Ledger → Ledger
-chargeFor a l = record { book = l .book; charged = charges (a .source) (costOf a) (l .charged); given = l .given }
+chargeFor a l = record { book = l .book; charged = charges (a .source) (submittedCost a) (l .charged); given = l .given }
 
--- "`Accepted`, `Replaced` .. enters one, without credits; a submission's walk then runs on the ledger"
-unfoldable pub admitted : MempoolConfig → Submission → List ℕ → List ℕ → Ledger → Ledger
-admitted g a ins outs l =
-    withBook (admits visitCap (g .capacity) (idOf (a .id)) (baseOf g a outs) (idsOf 5 ins) (idsOf 7 outs) (l .book)) (chargeFor a l)
+-- "`Accepted`, `Replaced` .. enters one, without credits": losers have left, the newcomer has entered, and its walk has not begun ("In demand 3's ledger at
+-- that moment, before eviction")
+unfoldable pub entered : MempoolConfig → Submission → List ℕ → List ℕ → Book → Book
+entered g a ins outs b = enters (idOf (a .id)) (submittedBase g a outs) (idsOf 5 ins) (idsOf 7 outs) (losersLeave (idsOf 5 ins) b)
+
+-- "a submission's walk then runs on the ledger", and after it "eviction of the lowest until the capacity is met"
+unfoldable pub entersSubmission : MempoolConfig → Submission → List ℕ → List ℕ → Ledger → Ledger
+entersSubmission g a ins outs l =
+    withBook (evicts (g .capacity) (walks visitCap (submittedBase g a outs) (idOf (a .id)) (entered g a ins outs (l .book)))) (chargeFor a l)
 
 -- "Losers (at 30 too) .. leave"
 unfoldable pub turnedAway : ℕ → Submission → List ℕ → Ledger → Ledger
@@ -114,41 +119,25 @@ turnedAway n a ins l =
     pick (eqb n 10 || eqb n 29) (chargeFor a l)
     (pick (eqb n 30) (withBook (losersLeave (idsOf 5 ins) (l .book)) (chargeFor a l)) l)
 
-unfoldable pub submitted : MempoolConfig → Submission → List ℕ → List ℕ → Outcome → Ledger → Ledger
-submitted g a ins outs done l = admitted g a ins outs l
-submitted g a ins outs (wrote n) l = admitted g a ins outs l
-submitted g a ins outs (refused n k) l = turnedAway n a ins l
-submitted g a ins outs needed l = l
-submitted g a ins outs (candidate k) l = l
-submitted g a ins outs (ended n) l = l
-submitted g a ins outs (missing k) l = l
-submitted g a ins outs (invalid k) l = l
-submitted g a ins outs (valid k) l = l
-submitted g a ins outs (number n) l = l
-submitted g a ins outs (said t) l = l
-submitted g a ins outs (entry k w b) l = l
-submitted g a ins outs none l = l
+unfoldable pub hearsSubmission : MempoolConfig → Submission → List ℕ → List ℕ → Reading → Ledger → Ledger
+hearsSubmission g a ins outs (did n) l = entersSubmission g a ins outs l
+hearsSubmission g a ins outs (declined n k) l = turnedAway n a ins l
+hearsSubmission g a ins outs (offers k) l = l
+hearsSubmission g a ins outs (fails k) l = l
+hearsSubmission g a ins outs tells l = l
 
 -- ---- what is not refused
 
-abbrev pub isRefused : Outcome → Bool
-isRefused (refused n k) = true
-isRefused done = false
-isRefused (wrote n) = false
-isRefused needed = false
-isRefused (candidate k) = false
-isRefused (ended n) = false
-isRefused (missing k) = false
-isRefused (invalid k) = false
-isRefused (valid k) = false
-isRefused (number n) = false
-isRefused (said t) = false
-isRefused (entry k w b) = false
-isRefused none = false
+abbrev pub isRefused : Reading → Bool
+isRefused (declined n k) = true
+isRefused (did n) = false
+isRefused (offers k) = false
+isRefused (fails k) = false
+isRefused tells = false
 
 -- "a return not refused enters one, without credits": its base by the fee, size and cost that it brings
-unfoldable pub returned : MempoolConfig → UnconfirmedTx → List ℕ → List ℕ → Ledger → Ledger
-returned g u ins outs l =
+unfoldable pub entersReturn : MempoolConfig → UnconfirmedTx → List ℕ → List ℕ → Ledger → Ledger
+entersReturn g u ins outs l =
     withBook (enters (idOf (u .id)) (feePerFactor (g .«fee_strategy») (u .fee) (u .size) (u .cost)) (idsOf 4 ins) (idsOf 5 outs) (l .book)) l
 
 -- "those a block removes leave"; "a block not refused clears the charges"
@@ -161,46 +150,30 @@ mined txs ins l = record { book = confirmsAll (confirmedOf txs ins) (l .book); c
 
 -- ---- a pass: next gives an id, and one that failed leaves: an input found nowhere, or found invalid
 
-unfoldable pub offered : Outcome → Ledger → Ledger
-offered (candidate k) l = withGiven (k ∷ []) l
-offered (refused n k) l = l
-offered done l = l
-offered (wrote n) l = l
-offered needed l = l
-offered (ended n) l = l
-offered (missing k) l = l
-offered (invalid k) l = l
-offered (valid k) l = l
-offered (number n) l = l
-offered (said t) l = l
-offered (entry k w b) l = l
-offered none l = l
+unfoldable pub givesNext : Reading → Ledger → Ledger
+givesNext (offers k) l = withGiven (k ∷ []) l
+givesNext (declined n k) l = l
+givesNext (did n) l = l
+givesNext (fails k) l = l
+givesNext tells l = l
 
-unfoldable pub failed : Outcome → Ledger → Ledger
-failed (missing k) l = withBook (allLeave (l .given) (l .book)) l
-failed (invalid k) l = withBook (allLeave (l .given) (l .book)) l
-failed (candidate k) l = l
-failed (refused n k) l = l
-failed done l = l
-failed (wrote n) l = l
-failed needed l = l
-failed (ended n) l = l
-failed (valid k) l = l
-failed (number n) l = l
-failed (said t) l = l
-failed (entry k w b) l = l
-failed none l = l
+unfoldable pub failed : Reading → Ledger → Ledger
+failed (fails k) l = withBook (allLeave (l .given) (l .book)) l
+failed (declined n k) l = l
+failed (did n) l = l
+failed (offers k) l = l
+failed tells l = l
 
--- ---- one call with its outcome; "All else changes nothing."
+-- ---- one call with what is read of its outcome; "All else changes nothing."
 
 unfoldable pub ledger : MempoolConfig → Call → Outcome → Ledger → Ledger
-ledger g (Submit a ins outs) o l = submitted g a ins outs o l
-ledger g (Return u ins outs) o l = pick (isRefused o) l (returned g u ins outs l)
-ledger g (Block time txs ins) o l = pick (isRefused o) l (mined txs ins l)
-ledger g (Invalidate time k) o l = pick (isRefused o) l (withBook (leaves k (l .book)) l)
+ledger g (Submit a ins outs) o l = hearsSubmission g a ins outs (readingOf o) l
+ledger g (Return u ins outs) o l = pick (isRefused (readingOf o)) l (entersReturn g u ins outs l)
+ledger g (Block time txs ins) o l = pick (isRefused (readingOf o)) l (mined txs ins l)
+ledger g (Invalidate time k) o l = pick (isRefused (readingOf o)) l (withBook (leaves k (l .book)) l)
 ledger g (Open time limit preheader) o l = l
-ledger g Next o l = offered o l
-ledger g (Answer flags v) o l = failed o l
+ledger g Next o l = givesNext (readingOf o) l
+ledger g (Answer flags v) o l = failed (readingOf o) l
 ledger g (Start time c) o l = l
 ledger g (Ask q) o l = l
 

@@ -15,7 +15,6 @@ pub mod SameMoves
 pub mod SameBlocks
 pub mod Readings
 pub mod BookCredits
-pub mod SameAdmits
 pub mod Admissions
 pub mod Limited
 pub mod Agrees

@@ -17,26 +17,24 @@ use Rattle.pool_types.specs.declared.Source.{Source}
 use Rattle.pool_types.specs.declared.Source.the-variants.{Local, Peer}
 use Rattle.pool_types.specs.declared.Verdict.{Verdict}
 use Rattle.pool_types.specs.declared.Verdict.the-variants.{Valid, Invalid, Absent}
-use Rattle.pool_types.specs.Outcomes.{Outcome, refused}
+use Rattle.pool_types.specs.Outcomes.{Outcome, refused, declined, readingOf}
 use Rattle.arguments.specs.Arguments.{whole, records, feeOf, heightKey, aheadOf}
 use Rattle.expiring_cache.specs.Cache.{Held, held}
 use Rattle.peers.specs.declared.PeerRecord.{PeerRecord}
 use Rattle.entries.specs.Entries.{Entry, pooled}
 use Rattle.boxes.specs.Among.{among, among-cons}
 use Rattle.boxes.specs.Records.{index}
-use Rattle.indexes.specs.Resolved.{allResolved}
-use Rattle.indexes.specs.Resolved.{submitted as asInputs}
+use Rattle.indexes.specs.Resolved.{allResolved, submitted}
 use Rattle.pool.specs.Pool.{Tables, noRoom}
 use Rattle.store.specs.World.{World, Result, unchanged}
 use Rattle.checks.specs.Checks.{dear, remote, first, callRefusal, peerRefusal, stateRefusal, listRefusal, refusalOf}
 use Rattle.admit.specs.Admit.{Admitted, loses, crowded, settled, seated, contested, admitSpec}
-use Rattle.process.specs.Process.{standingOf, judged, unlessRefused, processed}
-use Rattle.process.specs.Process.{Limits as Sizes}
+use Rattle.process.specs.Process.{Limits, standingOf, judged, unlessRefused, processed}
 use Rattle.ledger.specs.Charges.{Charge, totalCharged, chargedTo, payers}
 use Rattle.ledger.specs.ChargeLaws.{payers-are, unpaid-none}
 use Rattle.ledger.specs.SameCharges.{SameCharges}
 use Rattle.ledger.specs.ChargeRefusals.{chargeRefusal, refusal-is}
-use Rattle.ledger.specs.Demand3.{refusedBy, remoteWith, earlier, Limits}
+use Rattle.ledger.specs.Demand3.{refusedBy, remoteWith, earlier, FailsExactly}
 
 false-true : {A : Type 0} → false ≡ true → A
 false-true q = let z : _≡_ {A = ℕ} 0 1 = cc in absurd (omega arith)
@@ -44,9 +42,9 @@ false-true q = let z : _≡_ {A = ℕ} 0 1 = cc in absurd (omega arith)
 -- ---- an outcome that no test of 24, 25 and 26 gave
 
 pub record Later (o : Outcome) : Type 0 where
-  pub not-24 : refusedBy (24 ∷ []) o ≡ false
-  pub not-25 : refusedBy (25 ∷ []) o ≡ false
-  pub not-26 : refusedBy (26 ∷ []) o ≡ false
+  pub not-24 : refusedBy (24 ∷ []) (readingOf o) ≡ false
+  pub not-25 : refusedBy (25 ∷ []) (readingOf o) ≡ false
+  pub not-26 : refusedBy (26 ∷ []) (readingOf o) ≡ false
 
 -- of a test that gives this number, or goes on
 after : (t : Bool) (m n : ℕ) (o : Outcome) → eqb m 0 ≡ false → Later (refused m 0) → Later (pick (eqb n 0) o (refused n 0)) → Later (pick (eqb (pick t m n) 0) o (refused (pick t m n) 0))
@@ -67,7 +65,7 @@ unfolding listRefusal
 list-later most E R t a ins outs o h =
     after (ltb most (records 5 ins)) 7 _ o refl (plain .0)
     (after (noRoom E R t (records 5 ins + records 7 outs)) 27 _ o refl (plain .1)
-    (after (not (allResolved (index true (t .boxes)) (asInputs ins))) 28 _ o refl (plain .2)
+    (after (not (allResolved (index true (t .boxes)) (submitted ins))) 28 _ o refl (plain .2)
     (after (aheadOf (heightKey 7 6 outs) (a .preheader)) 8 0 o refl (plain .3) h)))
 
 -- ---- what a verdict leads to
@@ -117,7 +115,7 @@ call-early st room a ins outs =
 
 module _ (g : MempoolConfig) (cs : List Charge) where
   -- one of an earlier check: nothing is claimed
-  early : (from : Source) (n : ℕ) → among n earlier ≡ true → Limits g from (refused n 0) cs
+  early : (from : Source) (n : ℕ) → among n earlier ≡ true → FailsExactly g from (declined n 0) cs
   early from n h =
       let in24 : among n (24 ∷ earlier) ≡ true = more 24 n earlier h in
       record {
@@ -134,7 +132,7 @@ module _ (g : MempoolConfig) (cs : List Charge) where
           go false q = q
 
   -- a local one is asked none of them
-  local : (o : Outcome) → Later o → Limits g Local o cs
+  local : (o : Outcome) → Later o → FailsExactly g Local (readingOf o) cs
   local o h = record { fails-24 = λ z. h .not-24; fails-25 = λ z. h .not-25; fails-26 = λ z. h .not-26 }
 
   module _ (p : ℕ) (one : 1 ≤ g .«cost_per_peer_per_block») where
@@ -161,20 +159,20 @@ module _ (g : MempoolConfig) (cs : List Charge) where
     abbrev ending : Bool → Bool → Bool → Outcome → ℕ → Outcome
     ending t u v o n = pick (eqb (first (pick t 24 (pick u 25 (pick v 26 0))) n) 0) o (refused (first (pick t 24 (pick u 25 (pick v 26 0))) n) 0)
 
-    asked : (t u v : Bool) (o : Outcome) (n : ℕ) → full ≡ t → spent ≡ u → (not known && crowd) ≡ v → Later (pick (eqb n 0) o (refused n 0)) → Limits g (Peer p) (ending t u v o n) cs
+    asked : (t u v : Bool) (o : Outcome) (n : ℕ) → full ≡ t → spent ≡ u → (not known && crowd) ≡ v → Later (pick (eqb n 0) o (refused n 0)) → FailsExactly g (Peer p) (readingOf (ending t u v o n)) cs
     asked true u v o n e f i h = record { fails-24 = λ z. sym e; fails-25 = λ z. false-true (sym z); fails-26 = λ z. false-true (sym z) }
     asked false true v o n e f i h = record { fails-24 = λ z. sym e; fails-25 = λ z. sym f; fails-26 = λ z. false-true (sym z) }
     asked false false true o n e f i h = record { fails-24 = λ z. sym e; fails-25 = λ z. sym f; fails-26 = λ z. sym i }
     asked false false false o n e f i h = record { fails-24 = λ z. h .not-24 ∙ sym e; fails-25 = λ z. h .not-25 ∙ sym f; fails-26 = λ z. h .not-26 ∙ sym i }
 
     pub remote-limits : (o : Outcome) (n : ℕ) → Later (pick (eqb n 0) o (refused n 0))
-        → Limits g (Peer p) (pick (eqb (first (chargeRefusal (g .«cost_per_block») (g .«cost_per_peer_per_block») p cs) n) 0) o (refused (first (chargeRefusal (g .«cost_per_block») (g .«cost_per_peer_per_block») p cs) n) 0)) cs
+        → FailsExactly g (Peer p) (readingOf (pick (eqb (first (chargeRefusal (g .«cost_per_block») (g .«cost_per_peer_per_block») p cs) n) 0) o (refused (first (chargeRefusal (g .«cost_per_block») (g .«cost_per_peer_per_block») p cs) n) 0))) cs
     unfolding chargeRefusal
     remote-limits o n h = rw (spent-known known refl) (asked full spent (not known && crowd) o n refl refl refl h)
 
 -- ---- a whole submission
 
-module _ (m : Sizes) (st : Mempool) (w : World) (room : ℕ) (a : Submission) (ins outs : List ℕ) (cs : List Charge) (s : SameCharges (w .sum) (w .peers) cs)
+module _ (m : Limits) (st : Mempool) (w : World) (room : ℕ) (a : Submission) (ins outs : List ℕ) (cs : List Charge) (s : SameCharges (w .sum) (w .peers) cs)
     (sum : st .sums .«interblock_cost» ≡ w .sum) (used : st .sums .peers ≡ length (w .peers)) (one : 1 ≤ st .config .«cost_per_peer_per_block») where
   abbrev J : Outcome
   J = judged (m .visits) st w a ins outs (a .verdict) .outcome
@@ -187,24 +185,24 @@ module _ (m : Sizes) (st : Mempool) (w : World) (room : ℕ) (a : Submission) (i
 
   -- 24, 25 and 26 of a remote one, then the lists
   peers-limits : (from : Source)
-      → Limits (st .config) from (pick (eqb (first (pick (remote from) (peerRefusal st (standingOf from (w .peers))) 0) L) 0) J (refused (first (pick (remote from) (peerRefusal st (standingOf from (w .peers))) 0) L) 0)) cs
+      → FailsExactly (st .config) from (readingOf (pick (eqb (first (pick (remote from) (peerRefusal st (standingOf from (w .peers))) 0) L) 0) J (refused (first (pick (remote from) (peerRefusal st (standingOf from (w .peers))) 0) L) 0))) cs
   peers-limits Local = local (st .config) cs _ last
   peers-limits (Peer p) = rw (refusal-is s st (standingOf (Peer p) (w .peers)) p sum used refl) (remote-limits (st .config) cs p one J L last)
 
   -- 22 and 23 before them
-  state-limits : (t u : Bool) → Limits (st .config) (a .source)
-      (pick (eqb (first (pick t 22 (pick u 23 (pick (remote (a .source)) (peerRefusal st (standingOf (a .source) (w .peers))) 0))) L) 0) J
-      (refused (first (pick t 22 (pick u 23 (pick (remote (a .source)) (peerRefusal st (standingOf (a .source) (w .peers))) 0))) L) 0)) cs
+  state-limits : (t u : Bool) → FailsExactly (st .config) (a .source)
+      (readingOf (pick (eqb (first (pick t 22 (pick u 23 (pick (remote (a .source)) (peerRefusal st (standingOf (a .source) (w .peers))) 0))) L) 0) J
+      (refused (first (pick t 22 (pick u 23 (pick (remote (a .source)) (peerRefusal st (standingOf (a .source) (w .peers))) 0))) L) 0))) cs
   state-limits true u = early (st .config) cs (a .source) 22 refl
   state-limits false true = early (st .config) cs (a .source) 23 refl
   state-limits false false = peers-limits (a .source)
 
   -- and those of the call before all
-  call-limits : (n : ℕ) → Early n → (k : ℕ) → Limits (st .config) (a .source) (pick (eqb k 0) J (refused k 0)) cs
-      → Limits (st .config) (a .source) (pick (eqb (first n k) 0) J (refused (first n k) 0)) cs
+  call-limits : (n : ℕ) → Early n → (k : ℕ) → FailsExactly (st .config) (a .source) (readingOf (pick (eqb k 0) J (refused k 0))) cs
+      → FailsExactly (st .config) (a .source) (readingOf (pick (eqb (first n k) 0) J (refused (first n k) 0))) cs
   call-limits n h k q = go (eqb n 0) refl (h .is)
     where
-      go : (t : Bool) → eqb n 0 ≡ t → (t || among n earlier) ≡ true → Limits (st .config) (a .source) (pick (eqb (pick t k n) 0) J (refused (pick t k n) 0)) cs
+      go : (t : Bool) → eqb n 0 ≡ t → (t || among n earlier) ≡ true → FailsExactly (st .config) (a .source) (readingOf (pick (eqb (pick t k n) 0) J (refused (pick t k n) 0))) cs
       go true e i = q
       go false e i = rw e (early (st .config) cs (a .source) n i)
 
@@ -215,7 +213,7 @@ module _ (m : Sizes) (st : Mempool) (w : World) (room : ℕ) (a : Submission) (i
       go true = refl
       go false = refl
 
-  pub submission-limits : Limits (st .config) (a .source) (processed m st w room a ins outs .outcome) cs
+  pub submission-limits : FailsExactly (st .config) (a .source) (readingOf (processed m st w room a ins outs .outcome)) cs
   unfolding processed refusalOf stateRefusal
   submission-limits =
       rw (pick-outcome (refusalOf (m .inputs) (m .entries) (m .boxes) st room (w .tables) (w .cache) (standingOf (a .source) (w .peers)) a ins outs) (judged (m .visits) st w a ins outs (a .verdict)))

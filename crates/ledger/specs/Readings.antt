@@ -10,12 +10,12 @@ use lib.ListN.{length}
 use borrow.Author.Tests.{eq-eqb, eqb-true}
 use Rattle.words.specs.Lists.{pick, count, Once}
 use Rattle.words.specs.Find.{found, found-view}
-use Rattle.entries.specs.Entries.{Entry, weightOf as weightOfEntry, keyOf, pooled}
+use Rattle.entries.specs.Entries.{Entry, weightOf, keyOf, pooled}
 use Rattle.entries.specs.InOrder.{EntriesInOrder, Strict, strict}
 use Rattle.boxes.specs.Among.{among, among-cons}
 use Rattle.boxes.specs.Records.{BoxRec, Pair, same, index, lookup, inputsOf}
 use Rattle.pool.specs.Pool.{Tables}
-use Rattle.ledger.specs.Book.{Tx, Book, weightOf, insOf, outsOf, inBook}
+use Rattle.ledger.specs.Book.{Tx, Book, txWeight, insOf, outsOf, inBook}
 use Rattle.ledger.specs.Same.{Brief, briefOf, viewOf, SameBook}
 use Rattle.ledger.specs.Uses.{ids, outputsOf, inputs-in-book, outputs-in-book}
 use Rattle.ledger.specs.Views.{found-sort}
@@ -124,8 +124,8 @@ module _ (t : Tables) (b : Book) (s : SameBook t b) where
   pub in-order : EntriesInOrder (t .entries)
   in-order = pool-order t b s
 
-  pub in-strict-order : Strict weightOfEntry keyOf (t .entries)
-  in-strict-order = strict weightOfEntry keyOf (t .entries) in-order
+  pub in-strict-order : Strict weightOf keyOf (t .entries)
+  in-strict-order = strict weightOf keyOf (t .entries) in-order
 
   pub length-same : length (t .entries) ≡ length (b .txs)
   length-same = size-same t b s
@@ -142,7 +142,7 @@ module _ (t : Tables) (b : Book) (s : SameBook t b) where
       ∙ found-sort (λ x. x .weight) (λ x. x .id) k (map viewOf (b .txs)) (λ j. rw (map-map (λ (x : Brief). x .id) viewOf (b .txs)) (s .once j))
       ∙ sym (found-view viewOf (λ x. x .id) k (b .txs))
 
-  pub weights-same : (k : ℕ) → map (λ e. e .weight) (found (λ e. e .id) k (t .entries)) ≡ map weightOf (found (λ x. x .id) k (b .txs))
+  pub weights-same : (k : ℕ) → map (λ e. e .weight) (found (λ e. e .id) k (t .entries)) ≡ map txWeight (found (λ x. x .id) k (b .txs))
   weights-same k =
       sym (map-map (λ (x : Brief). x .weight) briefOf (found (λ e. e .id) k (t .entries)))
       ∙ ap (map (λ (x : Brief). x .weight)) (found-same k)

@@ -9,7 +9,7 @@ use Rattle.entries.specs.Order.{sortOn}
 use Rattle.boxes.specs.Records.{index}
 use Rattle.boxes.specs.IndexLaws.{Use, uses, the, Lone}
 use Rattle.pool.specs.Pool.{Tables}
-use Rattle.ledger.specs.Book.{Tx, Book, weightOf}
+use Rattle.ledger.specs.Book.{Tx, Book, txWeight}
 
 -- what both know of a transaction beside its boxes
 pub record Brief : Type 0 where
@@ -21,7 +21,7 @@ abbrev pub briefOf : Entry → Brief
 briefOf e = record { id = e .id; weight = e .weight; base = e .base }
 
 abbrev pub viewOf : Tx → Brief
-viewOf t = record { id = t .id; weight = weightOf t; base = t .base }
+viewOf t = record { id = t .id; weight = txWeight t; base = t .base }
 
 abbrev pub inOrder : List Brief → List Brief
 inOrder bs = sortOn (λ b. b .weight) (λ b. b .id) bs

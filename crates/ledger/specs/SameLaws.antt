@@ -18,7 +18,7 @@ use Rattle.boxes.specs.IndexLaws.{Use, the, Lone, Unowned, enterPairs, enterPai
 use Rattle.pool.specs.Pool.{Tables, insertTx, removeTx, removeAll}
 use Rattle.pool.specs.Laws.{away-none}
 use Rattle.pool.specs.Ok.{Ok}
-use Rattle.ledger.specs.Book.{Tx, Book, book, weightOf, entersPairs, leavesPairs, enters, leaves, allLeave, insOf, outsOf}
+use Rattle.ledger.specs.Book.{Tx, Book, book, txWeight, entersPairs, leavesPairs, enters, leaves, allLeave, insOf, outsOf}
 use Rattle.ledger.specs.Same.{Brief, briefOf, viewOf, SameBook}
 use Rattle.ledger.specs.Uses.{ids, keep-uses, own, unowned, drop-none}
 use Rattle.ledger.specs.Views.{sorted-view}
@@ -80,7 +80,7 @@ module _ (t : Tables) (b : Book) (s : SameBook t b) where
 
 pub same-enter : (e : Entry) (ins outs : List ℕ) (t : Tables) (b : Book) → SameBook t b → pooled (e .id) (t .entries) ≡ false → e .weight ≡ e .base → e .base ≤ cap
     → SameBook (insertTx e ins outs t) (enters (e .id) (e .base) ins outs b)
-unfolding enters weightOf
+unfolding enters txWeight
 same-enter e ins outs t b s n w h =
     record {
       once = once-cons (e .id) (ids (b .txs)) (sym (count-same t b s (e .id)) ∙ not-pooled (e .id) (t .entries) n) (s .once);

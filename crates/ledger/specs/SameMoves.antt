@@ -18,7 +18,7 @@ use Rattle.pool.specs.Pool.{Tables, removeTx, nobody, lowest, dropLow, trim, ev
 use Rattle.pool.specs.Ok.{low-remove}
 use Rattle.family.specs.Family.{propagated}
 use Rattle.family.specs.Chains.{walked}
-use Rattle.ledger.specs.Book.{Tx, Book, book, weightOf, leaves, creditTx, credited, parentsIn, walks, lowestId, trimmed, evicts}
+use Rattle.ledger.specs.Book.{Tx, Book, book, txWeight, leaves, creditTx, creditsTo, parentsIn, walks, lowestId, trims, evicts}
 use Rattle.ledger.specs.Same.{Brief, briefOf, viewOf, usesIn, SameBook}
 use Rattle.ledger.specs.Uses.{ids, inputs-in-book}
 use Rattle.ledger.specs.Views.{sort-view, lowest-last, sortTxs}
@@ -44,7 +44,7 @@ brief-raise c k (e ∷ es) = λ i. go (eqb (e .id) k) i ∷ brief-raise c k es i
     go false = refl
 
 view-raise : (c k : ℕ) (ts : List Tx) → map viewOf (map (creditTx c k) ts) ≡ map (raise c k) (map viewOf ts)
-unfolding weightOf
+unfolding txWeight
 view-raise c k [] = refl
 view-raise c k (t ∷ ts) = λ i. record { id = t .id; weight = go (eqb (t .id) k) i; base = t .base } ∷ view-raise c k ts i
   where
@@ -78,7 +78,7 @@ same-credit c k t b s =
       lone-out = s .lone-out;
     }
 
-pub same-credits : (c : ℕ) (ks : List ℕ) (t : Tables) (b : Book) → SameBook t b → SameBook (record { entries = credits c ks (t .entries); boxes = t .boxes }) (credited c ks b)
+pub same-credits : (c : ℕ) (ks : List ℕ) (t : Tables) (b : Book) → SameBook t b → SameBook (record { entries = credits c ks (t .entries); boxes = t .boxes }) (creditsTo c ks b)
 same-credits c [] t b s = s
 same-credits c (k ∷ ks) t b s =
     same-credits c ks (record { entries = credit c k (t .entries); boxes = t .boxes }) (book (map (creditTx c k) (b .txs)) (b .spenders) (b .producers)) (same-credit c k t b s)
@@ -100,7 +100,7 @@ abbrev noTx : Tx
 noTx = record { id = 0; base = 0; ins = []; outs = []; credits = [] }
 
 pub lowest-same : (t : Tables) (b : Book) → SameBook t b → lowest t .id ≡ lowestId (b .txs)
-unfolding weightOf
+unfolding txWeight
 lowest-same t b s =
     ap named (last-view briefOf nobody (t .entries))
     ∙ ap (λ es. last (briefOf nobody) es .id) (s .entries ∙ sym (sort-view viewOf weighs named (b .txs)))
@@ -110,12 +110,12 @@ lowest-same t b s =
 same-low : (t : Tables) (b : Book) → SameBook t b → 0 < length (t .entries) → SameBook (dropLow t) (leaves (lowestId (b .txs)) b)
 same-low t b s h = rw (low-remove t (same-ok t b s) h) (subst (λ k. SameBook (removeTx (lowest t .id) t) (leaves k b)) (lowest-same t b s) (same-remove (lowest t .id) t b s))
 
-same-trim : (f n : ℕ) (t : Tables) (b : Book) → SameBook t b → SameBook (trim f n t) (trimmed f n b)
+same-trim : (f n : ℕ) (t : Tables) (b : Book) → SameBook t b → SameBook (trim f n t) (trims f n b)
 same-trim zero n t b s = s
 same-trim (suc f) n t b s = rw (size-same t b s) (go (leb (length (b .txs)) n) refl (same-trim f n (dropLow t) (leaves (lowestId (b .txs)) b)))
   where
-    go : (u : Bool) → leb (length (b .txs)) n ≡ u → (SameBook (dropLow t) (leaves (lowestId (b .txs)) b) → SameBook (trim f n (dropLow t)) (trimmed f n (leaves (lowestId (b .txs)) b)))
-        → SameBook (pick u t (trim f n (dropLow t))) (pick u b (trimmed f n (leaves (lowestId (b .txs)) b)))
+    go : (u : Bool) → leb (length (b .txs)) n ≡ u → (SameBook (dropLow t) (leaves (lowestId (b .txs)) b) → SameBook (trim f n (dropLow t)) (trims f n (leaves (lowestId (b .txs)) b)))
+        → SameBook (pick u t (trim f n (dropLow t))) (pick u b (trims f n (leaves (lowestId (b .txs)) b)))
     go true q ih = s
     go false q ih = let h = leb-false (length (b .txs)) n q in ih (same-low t b s (omega (arith, size-same t b s)))
 

@@ -15,7 +15,7 @@ use Rattle.pool_types.specs.declared.MempoolConfig.{MempoolConfig}
 use Rattle.pool_types.specs.declared.Submission.{Submission}
 use Rattle.pool_types.specs.declared.StartOutcome.{StartOutcome}
 use Rattle.pool_types.specs.declared.StartOutcome.the-variants.{Ready, NotStarted}
-use Rattle.pool_types.specs.Outcomes.{Outcome, refused, done, wrote, needed, candidate, ended, missing, invalid, valid, number, said, entry, none}
+use Rattle.pool_types.specs.Outcomes.{Outcome, Reading, declined, did, offers, fails, tells, readingOf}
 use Rattle.entries.specs.Entries.{Entry, pooled}
 use Rattle.boxes.specs.Records.{BoxRec, Pair, index, inputsOf}
 use Rattle.boxes.specs.Among.{among}
@@ -29,7 +29,7 @@ use Rattle.expiring_cache.specs.Layout.{ok-room as cache-room}
 use Rattle.store.specs.Fits.{goes-on, un-not}
 use Rattle.mempool.specs.Start.{Sizes, sized, settled, within, empty, started}
 use Rattle.lent.specs.Lent.{LentFits}
-use Rattle.ledger.specs.Book.{Tx, Book, inBook, insOf, outsOf, weightOf, walks}
+use Rattle.ledger.specs.Book.{Tx, Book, inBook, insOf, outsOf, txWeight}
 use Rattle.ledger.specs.Charges.{Fair}
 use Rattle.ledger.specs.ChargeLaws.{in-among}
 use Rattle.ledger.specs.Same.{Brief, briefOf, viewOf, SameBook}
@@ -38,9 +38,9 @@ use Rattle.ledger.specs.SameCharges.{same-none as charges-none}
 use Rattle.ledger.specs.Uses.{outputsOf}
 use Rattle.ledger.specs.Readings.{Named, found-same, ids-once, in-strict-order, length-same, pooled-same, weights-same, bases-same, inputs-same, outputs-same, named-spender, named-producer}
 use Rattle.ledger.specs.BookCredits.{credits-for-chains}
-use Rattle.ledger.specs.Ledger.{Call, Submit, Return, Block, Invalidate, Open, Next, Answer, Start, Ask, Ledger, Heard, told, ledger, visitCap, baseOf}
+use Rattle.ledger.specs.Ledger.{Call, Submit, Return, Block, Invalidate, Open, Next, Answer, Start, Ask, Ledger, Heard, told, entersSubmission, hearsSubmission, ledger}
 use Rattle.ledger.specs.Run.{Moment, worldAt, FitsAt, sizesAt, Step, Run, begin, call}
-use Rattle.ledger.specs.Demand3.{Known, pooledAs, heldAs, Names, entered, OncePerChain, CreditsChains, Limits, ofSubmission, everySubmission, Demand3}
+use Rattle.ledger.specs.Demand3.{Known, pooledAs, heldAs, Names, CreditsChains, FailsExactly, ofSubmit, everySubmission, Demand3}
 use Rattle.ledger.specs.Agrees.{Bounds, SameWorld, Agrees}
 use Rattle.ledger.specs.AgreesSubmission.{submission-agrees}
 use Rattle.ledger.specs.AgreesCalls.{return-agrees, invalidation-agrees, block-agrees}
@@ -64,7 +64,7 @@ module _ (g : MempoolConfig) (bounds : Bounds g) (m k : Moment) (l : Ledger) (o 
   step-agrees (Start time c) x = stays (x .same)
   step-agrees (Ask q) x = stays (x .same)
 
-  step-limits : (c : Call) → Step c o m k → ofSubmission (λ a ins outs. Limits g (a .source) o (l .charged)) c
+  step-limits : (c : Call) → Step c o m k → ofSubmit (λ a ins outs. FailsExactly g (a .source) (readingOf o) (l .charged)) c
   step-limits (Submit a ins outs) x = submission-agrees g bounds m k l a ins outs o s x .1
   step-limits (Return u ins outs) x = tt
   step-limits (Block time txs ins) x = tt
@@ -77,23 +77,17 @@ module _ (g : MempoolConfig) (bounds : Bounds g) (m k : Moment) (l : Ledger) (o 
 
 -- ---- the walks, on the ledger alone
 
-credits-chains : (g : MempoolConfig) (a : Submission) (ins outs : List ℕ) (o : Outcome) (l : Ledger) → CreditsChains g a ins outs o l
-credits-chains g a ins outs done l = λ e longest h j. credits-for-chains _ _ _ _ e longest h j
-credits-chains g a ins outs (wrote n) l = λ e longest h j. credits-for-chains _ _ _ _ e longest h j
-credits-chains g a ins outs (refused n k) l = tt
-credits-chains g a ins outs needed l = tt
-credits-chains g a ins outs (candidate k) l = tt
-credits-chains g a ins outs (ended n) l = tt
-credits-chains g a ins outs (missing k) l = tt
-credits-chains g a ins outs (invalid k) l = tt
-credits-chains g a ins outs (valid k) l = tt
-credits-chains g a ins outs (number n) l = tt
-credits-chains g a ins outs (said t) l = tt
-credits-chains g a ins outs (entry k w b) l = tt
-credits-chains g a ins outs none l = tt
+credits-chains : (g : MempoolConfig) (a : Submission) (ins outs : List ℕ) (r : Reading) (l : Ledger) → CreditsChains g a ins outs r (l .book) (hearsSubmission g a ins outs r l .book)
+unfolding hearsSubmission entersSubmission
+credits-chains g a ins outs (did n) l = record { made = refl; once = λ e longest h j. credits-for-chains _ _ _ _ e longest h j }
+credits-chains g a ins outs (declined n k) l = tt
+credits-chains g a ins outs (offers k) l = tt
+credits-chains g a ins outs (fails k) l = tt
+credits-chains g a ins outs tells l = tt
 
-call-chains : (g : MempoolConfig) (c : Call) (o : Outcome) (l : Ledger) → ofSubmission (λ a ins outs. CreditsChains g a ins outs o l) c
-call-chains g (Submit a ins outs) o l = credits-chains g a ins outs o l
+call-chains : (g : MempoolConfig) (c : Call) (o : Outcome) (l : Ledger) → ofSubmit (λ a ins outs. CreditsChains g a ins outs (readingOf o) (l .book) (ledger g c o l .book)) c
+unfolding ledger
+call-chains g (Submit a ins outs) o l = credits-chains g a ins outs (readingOf o) l
 call-chains g (Return u ins outs) o l = tt
 call-chains g (Block time txs ins) o l = tt
 call-chains g (Invalidate time j) o l = tt
@@ -103,7 +97,7 @@ call-chains g (Answer flags v) o l = tt
 call-chains g (Start time c) o l = tt
 call-chains g (Ask q) o l = tt
 
-every-chain : (g : MempoolConfig) (h : List Heard) → everySubmission (CreditsChains g) g h
+every-chain : (g : MempoolConfig) (h : List Heard) → everySubmission (λ a ins outs r l k. CreditsChains g a ins outs r (l .book) (k .book)) g h
 every-chain g [] = tt
 every-chain g (x ∷ h) = (call-chains g (x .call) (x .outcome) (told g h), every-chain g h)
 
@@ -184,7 +178,7 @@ module _ (m : Moment) (g : MempoolConfig) (e : Ready (m .state) ≡ started (siz
 pub record Told (g : MempoolConfig) (h : List Heard) (m : Moment) : Type 0 where
   pub bounds : Bounds g
   pub agrees : Agrees g m (told g h)
-  pub limits : everySubmission (λ a ins outs o l. Limits g (a .source) o (l .charged)) g h
+  pub limits : everySubmission (λ a ins outs r l k. FailsExactly g (a .source) r (l .charged)) g h
 
 pub run-told : (g : MempoolConfig) {h : List Heard} {m : Moment} → Run g h m → Told g h m
 run-told g (begin m e one) = record { bounds = bounds-of m g e one; agrees = start-agrees m g e; limits = tt }

@@ -12,7 +12,7 @@ use Rattle.words.specs.Lists.{pick, count, Once, once-head, once-tail, absent-h
 use Rattle.words.specs.Find.{found, last}
 use Rattle.entries.specs.Entries.{insertOn}
 use Rattle.entries.specs.Order.{before, sortOn, Behind, Sorted, behind-trans, insert-sorted, sort-sorted, count-sort, length-insert, insert-view}
-use Rattle.ledger.specs.Book.{Tx, weightOf, lowestOf, lowestId}
+use Rattle.ledger.specs.Book.{Tx, txWeight, lowestOf, lowestId}
 
 -- ---- a view
 
@@ -82,17 +82,17 @@ abbrev idOf : Tx → ℕ
 idOf t = t .id
 
 abbrev pub sortTxs : List Tx → List Tx
-sortTxs ts = sortOn weightOf idOf ts
+sortTxs ts = sortOn txWeight idOf ts
 
-last-sort : (d x : Tx) (xs : List Tx) → last d (insertOn weightOf idOf x (sortTxs xs)) ≡ lowestOf x xs
+last-sort : (d x : Tx) (xs : List Tx) → last d (insertOn txWeight idOf x (sortTxs xs)) ≡ lowestOf x xs
 last-sort d x [] = refl
 last-sort d x (y ∷ ys) =
-    go (insertOn weightOf idOf y (sortTxs ys)) (insert-sorted weightOf idOf y (sortTxs ys) (sort-sorted weightOf idOf ys)) (length-insert weightOf idOf y (sortTxs ys)) (last-sort d y ys)
+    go (insertOn txWeight idOf y (sortTxs ys)) (insert-sorted txWeight idOf y (sortTxs ys) (sort-sorted txWeight idOf ys)) (length-insert txWeight idOf y (sortTxs ys)) (last-sort d y ys)
   where
-    go : (zs : List Tx) → Sorted weightOf idOf zs → length zs ≡ suc (length (sortTxs ys)) → last d zs ≡ lowestOf y ys
-        → last d (insertOn weightOf idOf x zs) ≡ pick (before weightOf idOf (lowestOf y ys) x) x (lowestOf y ys)
+    go : (zs : List Tx) → Sorted txWeight idOf zs → length zs ≡ suc (length (sortTxs ys)) → last d zs ≡ lowestOf y ys
+        → last d (insertOn txWeight idOf x zs) ≡ pick (before txWeight idOf (lowestOf y ys) x) x (lowestOf y ys)
     go [] s h e = absurd (omega arith)
-    go (z ∷ zs) s h e = last-top weightOf idOf d x z zs s ∙ ap (λ u. pick (before weightOf idOf u x) x u) e
+    go (z ∷ zs) s h e = last-top txWeight idOf d x z zs s ∙ ap (λ u. pick (before txWeight idOf u x) x u) e
 
 pub lowest-last : (d : Tx) (ts : List Tx) → d .id ≡ 0 → last d (sortTxs ts) .id ≡ lowestId ts
 lowest-last d [] e = e

@@ -16,10 +16,10 @@ use Rattle.boxes.specs.Records.{Pair, index}
 use Rattle.pool.specs.Pool.{Tables, insertTx, removeTx, evict}
 use Rattle.family.specs.Family.{propagated}
 use Rattle.returns.specs.declared.UnconfirmedTx.{UnconfirmedTx}
-use Rattle.ledger.specs.Book.{Tx, Book, book, weightOf, enters, leaves, walks, evicts}
+use Rattle.ledger.specs.Book.{Tx, Book, book, txWeight, enters, leaves, walks, evicts}
 use Rattle.ledger.specs.Charges.{Charge}
 use Rattle.ledger.specs.Same.{Brief, briefOf, viewOf, inOrder}
-use Rattle.ledger.specs.Ledger.{Ledger, emptyLedger, Block, ledger, returned, mined}
+use Rattle.ledger.specs.Ledger.{Ledger, emptyLedger, Block, ledger, entersReturn, mined}
 use Rattle.ledger.specs.Demand3.{PriorityOrder}
 
 abbrev entry : ℕ → ℕ → Entry
@@ -60,15 +60,15 @@ abbrev pair : ℕ → ℕ → Pair
 pair x k = record { box = x; id = k }
 
 weights : (map briefOf (pool3 .entries) ≡ seen 1 2035 2000 ∷ seen 2 35 30 ∷ seen 3 5 5 ∷ []) × (inOrder (map viewOf (book3 .txs)) ≡ map briefOf (pool3 .entries))
-unfolding ahead enters walks weightOf
+unfolding ahead enters walks txWeight
 weights = (refl, refl)
 
 the-lowest : (map briefOf (pool4 .entries) ≡ seen 1 2035 2000 ∷ seen 4 40 40 ∷ seen 2 35 30 ∷ []) × (inOrder (map viewOf (book4 .txs)) ≡ map briefOf (pool4 .entries))
-unfolding ahead enters walks weightOf evicts leaves
+unfolding ahead enters walks txWeight evicts leaves
 the-lowest = (refl, refl)
 
 ties : (map briefOf (pool5 .entries) ≡ seen 1 2035 2000 ∷ seen 0 40 40 ∷ seen 4 40 40 ∷ seen 2 35 30 ∷ []) × (inOrder (map viewOf (book5 .txs)) ≡ map briefOf (pool5 .entries))
-unfolding ahead enters walks weightOf evicts leaves
+unfolding ahead enters walks txWeight evicts leaves
 ties = (refl, refl)
 
 -- the order that demand 3 claims, of these four
@@ -78,11 +78,11 @@ ordered = (refl, (refl, (refl, (tt, tt))))
 
 -- 0 has the index's entry of box 7, and when it leaves nobody gets it back
 taken : (index false (pool5 .boxes) ≡ pair 11 2 ∷ pair 8 4 ∷ pair 7 0 ∷ []) × (book5 .spenders ≡ index false (pool5 .boxes))
-unfolding enters walks evicts leaves ahead weightOf
+unfolding enters walks evicts leaves ahead txWeight
 taken = (refl, refl)
 
 not-put-back : (index false (removeTx 0 pool5 .boxes) ≡ pair 11 2 ∷ pair 8 4 ∷ []) × (leaves 0 book5 .spenders ≡ index false (removeTx 0 pool5 .boxes))
-unfolding enters walks evicts leaves ahead weightOf
+unfolding enters walks evicts leaves ahead txWeight
 not-put-back = (refl, refl)
 
 -- ---- calls
@@ -114,6 +114,6 @@ abbrev back : UnconfirmedTx
 back =
     record { id = record { a = 0; b = 0; c = 0; d = 5 }; fee = 40; size = 1024; cost = 0; «validation_cost» = Unmeasured; created = 0; «last_checked» = 0; source = Local }
 
-comes-back : map weightOf (returned settings back [] [] emptyLedger .book .txs) ≡ 40 ∷ []
-unfolding returned enters weightOf
+comes-back : map txWeight (entersReturn settings back [] [] emptyLedger .book .txs) ≡ 40 ∷ []
+unfolding entersReturn enters txWeight
 comes-back = refl

@@ -109,3 +109,32 @@ unfoldable pub lookedOf : EntryOutcome → Outcome
 lookedOf (Entry x w b) = entry (idOf x) w b
 lookedOf NoEntry = none
 lookedOf (NotLooked n) = refused n 0
+
+-- ---- what is read of an outcome where its call does not matter: the thirteen cases are told apart once, here
+
+pub data Reading : Type 0 where
+  -- a refusal's number, and how many ids it wrote
+  declined : ℕ → ℕ → Reading
+  -- done, and so many ids, entries or pairs were written
+  did : ℕ → Reading
+  -- next gave this candidate
+  offers : ℕ → Reading
+  -- this one left a pass: an input of it was found nowhere, or it was invalid
+  fails : ℕ → Reading
+  -- any other: nothing of it is read
+  tells : Reading
+
+abbrev pub readingOf : Outcome → Reading
+readingOf (refused n k) = declined n k
+readingOf done = did 0
+readingOf (wrote n) = did n
+readingOf needed = tells
+readingOf (candidate k) = offers k
+readingOf (ended n) = tells
+readingOf (missing k) = fails k
+readingOf (invalid k) = fails k
+readingOf (valid k) = tells
+readingOf (number n) = tells
+readingOf (said t) = tells
+readingOf (entry k w b) = tells
+readingOf none = tells
