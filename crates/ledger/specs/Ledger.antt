@@ -4,7 +4,6 @@
 -- arguments and outcomes, how flat words are read as ids (`idsOf`), outputs as a fee (`feeOf`) and a block's two lists as transactions (`confirmedOf`),
 -- and the base (`feePerFactor`).
 use Prim.Native.Nat.{ℕ, max}
-use mathlib.Core.Path.{_≡_, refl}
 use mathlib.Core.Bool.{Bool, true, false, _||_}
 use mathlib.Core.List.{List, [], _∷_}
 use lib.Dec.{eqb}
