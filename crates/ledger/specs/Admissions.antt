@@ -1,20 +1,19 @@
 -- A submission with a valid verdict, in pool and ledger: what document 01 has after the tests, 10, 29, losers, 30, insertion, credits and eviction, keeps
 -- the agreement, if the ledger is told the outcome.
 use Prim.Native.Nat.{ℕ, _+_, _/_, _≤_, max, min}
-use mathlib.Core.Path.{_≡_, refl, sym, ap, _∙_}
-use mathlib.Core.Bool.{Bool, true, false, not}
+use mathlib.Core.Path.{_≡_, refl, ap}
+use mathlib.Core.Bool.{Bool, true, false}
 use mathlib.Core.List.{List, [], _∷_, map}
 use native.Mathlib.Omega.{arith}
 use lib.Dec.{eqb, ltb}
 use lib.ListN.{length}
-use Rattle.words.specs.Lists.{pick, count, count-map-keep}
+use Rattle.words.specs.Lists.{pick, count}
 use Rattle.words.specs.Sums.{cap, quotientOf}
 use Rattle.words.specs.Find.{without}
 use Rattle.words.specs.Ids.{idOf}
 use Rattle.pool_types.specs.declared.MempoolConfig.{MempoolConfig}
 use Rattle.pool_types.specs.declared.FeeStrategy.{FeeStrategy}
 use Rattle.pool_types.specs.declared.Submission.{Submission}
-use Rattle.pool_types.specs.declared.Verdict.{Verdict}
 use Rattle.pool_types.specs.declared.Verdict.the-variants.{Valid}
 use Rattle.pool_types.specs.Outcomes.{refused, readingOf}
 use Rattle.weight.specs.Weight.{feePerFactor, factorOf}
@@ -25,9 +24,9 @@ use Rattle.boxes.specs.Flat.{idsOf}
 use Rattle.boxes.specs.Records.{index, conflicts, dropOwner}
 use Rattle.pool.specs.Pool.{Tables, removeTx, removeAll, evict}
 use Rattle.admit.specs.Admit.{Admitted, loses, crowded, newcomer, joined, settled, seated, contested, admitSpec, baseOf, costOf}
-use Rattle.ledger.specs.Book.{Book, losersLeave, enters, walks, evicts}
+use Rattle.ledger.specs.Book.{losersLeave, walks}
 use Rattle.ledger.specs.Same.{SameBook}
-use Rattle.ledger.specs.SameLaws.{count-same, same-enter, same-remove}
+use Rattle.ledger.specs.SameLaws.{same-enter}
 use Rattle.ledger.specs.SameLosers.{same-losers}
 use Rattle.ledger.specs.SameMoves.{same-propagated, same-evict}
 use Rattle.ledger.specs.Ledger.{Ledger, withBook, visitCap, verdictCost, submittedCost, submittedBase, chargeFor, entered, entersSubmission, turnedAway, hearsSubmission}

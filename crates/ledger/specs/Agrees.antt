@@ -1,24 +1,17 @@
 -- The pool of a moment agrees with the ledger: what the theorem carries from call to call.
-use Prim.Native.Nat.{ℕ, _^_, _≤_}
-use mathlib.Core.Path.{_≡_, refl, sym, ap, _∙_}
-use mathlib.Core.Bool.{Bool, true, false, _&&_}
-use mathlib.Core.List.{List, [], _∷_}
-use native.Mathlib.Omega.{arith}
-use lib.ListN.{length, take, length-take}
-use Rattle.words.specs.Ids.{idOf}
-use Rattle.pool_types.specs.declared.Mempool.{Mempool}
+use Prim.Native.Nat.{_^_, _≤_}
+use mathlib.Core.Path.{_≡_, sym, _∙_, subst}
+use mathlib.Core.Bool.{true, _&&_}
+use mathlib.Core.List.{[], _∷_}
 use Rattle.pool_types.specs.declared.MempoolConfig.{MempoolConfig}
-use Rattle.pool_types.specs.declared.Pass.{Pass}
-use Rattle.peers.specs.declared.PeerRecord.{PeerRecord}
-use Rattle.store.specs.World.{World, worldOf}
-use Rattle.store.specs.Fits.{Fits}
-use Rattle.lent.specs.Lent.{lentWorld, LentFits}
-use Rattle.lent.specs.Flat.{flatten, flat-fits, flat-world}
-use Rattle.ledger.specs.Charges.{Charge, Fair}
+use Rattle.pool_types.specs.Outcomes.{Outcome, Reading, readingOf}
+use Rattle.store.specs.World.{World}
+use Rattle.cleanup.specs.Passes.{PassNow, PassResult}
+use Rattle.ledger.specs.Charges.{Fair}
 use Rattle.ledger.specs.Same.{SameBook}
 use Rattle.ledger.specs.SameCharges.{SameCharges}
 use Rattle.ledger.specs.Ledger.{Ledger}
-use Rattle.ledger.specs.Run.{Moment, worldAt, FitsAt}
+use Rattle.ledger.specs.Run.{Moment, worldAt, FitsAt, passAt, Becomes}
 
 -- the settings of an accepted start, with a peer limit of at least 1
 pub record Bounds (g : MempoolConfig) : Type 0 where
@@ -33,31 +26,32 @@ pub record SameWorld (g : MempoolConfig) (w : World) (l : Ledger) : Type 0 where
   pub fair : Fair (g .«cost_per_block») (g .«cost_per_peer_per_block») (l .charged)
 
 -- while a candidate is out, it is "the id that next gave last"
-abbrev pub Remembers : Pass → Ledger → Type 0
-Remembers p l = (p .«open» && p .out) ≡ true → l .given ≡ idOf (p .candidate) ∷ []
+abbrev pub Recalls : PassNow → Ledger → Type 0
+Recalls p l = (p .isOpen && p .out) ≡ true → l .given ≡ p .candidate ∷ []
 
 pub record Agrees (g : MempoolConfig) (m : Moment) (l : Ledger) : Type 0 where
   pub fits : FitsAt m
   pub config : m .state .config ≡ g
   pub world : SameWorld g (worldAt m) l
-  pub given : Remembers (m .state .pass) l
+  pub given : Recalls (passAt m) l
 
--- ---- the state's count of records is that of the records in use
+-- ---- a step
 
-pub used-is : (m : Moment) → FitsAt m → m .state .sums .peers ≡ length (worldAt m .peers)
-used-is m f = omega (arith, length-take (m .state .sums .peers) (m .peers), f .ready .used, f .records)
+-- what a call comes to, and a ledger
+pub record Tallies (g : MempoolConfig) (r : PassResult) (l : Ledger) : Type 0 where
+  pub world : SameWorld g (r .world) l
+  pub given : Recalls (r .pass) l
 
--- ---- contracts that speak of flat words
-
-pub lent-fits : {e b k : List ℕ} {ys : List PeerRecord} {st : Mempool} → 256 ≤ length ys → Fits e b k (flatten ys) st → LentFits e b k ys st
-lent-fits r f = record { ready = record { tests = f .tests; keeps = f .keeps; used = f .used }; records = r }
-
--- what such a call leaves, read with the peer records as they are
-pub lent-world : {e b k : List ℕ} {ys : List PeerRecord} {st : Mempool} {w : World} → LentFits e b k ys st → worldOf e b k (flatten ys) st ≡ w → lentWorld e b k ys st ≡ w
-lent-world f q = sym (flat-world f) ∙ q
-
-pub flat-at : (m : Moment) → FitsAt m → Fits (m .entries) (m .boxes) (m .cache) (flatten (m .peers)) (m .state)
-flat-at m f = flat-fits f
-
-pub world-at : (m : Moment) → FitsAt m → worldOf (m .entries) (m .boxes) (m .cache) (flatten (m .peers)) (m .state) ≡ worldAt m
-world-at m f = flat-world f
+-- a step keeps the agreement where what the call comes to tallies with the ledger that heard so
+pub became-agrees : (g : MempoolConfig) (m k : Moment) (l : Ledger) (o : Outcome) (r : PassResult) (hears : Reading → Ledger)
+    → Agrees g m l → Becomes m k o r → Tallies g r (hears (readingOf (r .outcome))) → Agrees g k (hears (readingOf o))
+became-agrees g m k l o r hears s c t =
+    let p = c (s .fits) in
+    let j : Ledger = hears (readingOf (r .outcome)) in
+    rw (p .outcome)
+    (record {
+      fits = p .fits;
+      config = p .config ∙ s .config;
+      world = subst (λ (w : World). SameWorld g w j) (sym (p .world)) (t .world);
+      given = subst (λ (x : PassNow). Recalls x j) (sym (p .pass)) (t .given);
+    })

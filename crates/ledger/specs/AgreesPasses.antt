@@ -1,46 +1,26 @@
 -- The calls of a pass keep the agreement: open, next and answer.
 use Prim.Native.Nat.{ℕ}
-use mathlib.Core.Path.{_≡_, refl, sym, ap, _∙_, subst}
+use mathlib.Core.Path.{_≡_, refl, sym, _∙_}
 use mathlib.Core.Bool.{Bool, true, false, not, _&&_}
 use mathlib.Core.List.{List, [], _∷_}
 use native.Mathlib.Omega.{arith}
-use lib.Dec.{T, eqb, leb}
-use lib.ListN.{length}
+use lib.Dec.{eqb, leb}
 use borrow.Author.Tests.{eqb-true, not-false}
 use Rattle.words.specs.Lists.{pick}
 use Rattle.pool_types.specs.declared.MempoolConfig.{MempoolConfig}
 use Rattle.pool_types.specs.declared.Verdict.{Verdict}
 use Rattle.pool_types.specs.declared.Verdict.the-variants.{Valid, Invalid, Absent}
 use Rattle.pool_types.specs.Outcomes.{Outcome, refused, done, missing, readingOf}
-use Rattle.boxes.specs.Records.{inputsOf}
 use Rattle.pool.specs.Pool.{removeTx}
 use Rattle.store.specs.World.{World}
-use Rattle.cleanup.specs.Passes.{PassNow, passOf, PassResult, still, opened, firstDue, sought, nexted, offered, answerRefusal, lacksInput, goes, answeredWith, weighed, answered}
-use Rattle.cleanup.specs.Post.{PassPost}
-use Rattle.lent.specs.Flat.{flatten}
-use Rattle.ledger.specs.Book.{Book, leaves, allLeave}
+use Rattle.cleanup.specs.Passes.{PassNow, PassResult, still, opened, firstDue, sought, nexted, offered, answerRefusal, lacksInput, goes, answeredWith, weighed, answered}
+use Rattle.ledger.specs.Book.{allLeave}
 use Rattle.ledger.specs.Same.{SameBook}
 use Rattle.ledger.specs.SameLaws.{same-remove, same-stamped}
-use Rattle.ledger.specs.Ledger.{Ledger, withBook, withGiven, givesNext, failed}
-use Rattle.ledger.specs.Run.{Moment, worldAt, FitsAt, Opened, Offered, Answered}
-use Rattle.ledger.specs.Agrees.{SameWorld, Agrees, lent-fits, lent-world, flat-at, world-at}
+use Rattle.ledger.specs.Ledger.{Open, Next, Answer, Ledger, givesNext, failed}
+use Rattle.ledger.specs.Run.{Moment, worldAt, passAt, Becomes, Step}
+use Rattle.ledger.specs.Agrees.{SameWorld, Recalls, Agrees, Tallies, became-agrees}
 use Rattle.ledger.specs.AgreesCalls.{zero-not}
-
--- while a candidate is out, it is "the id that next gave last"
-abbrev Recalls : PassNow → Ledger → Type 0
-Recalls p l = (p .isOpen && p .out) ≡ true → l .given ≡ p .candidate ∷ []
-
--- what a call of a pass leaves of pool and ledger
-record Passes (g : MempoolConfig) (r : PassResult) (l : Ledger) : Type 0 where
-  world : SameWorld g (r .world) l
-  given : Recalls (r .pass) l
-
-agrees-pass : (g : MempoolConfig) (m k : Moment) (l j : Ledger) (o : Outcome) (r : PassResult) → Agrees g m l → k .peers ≡ m .peers
-    → PassPost (m .state) (k .state) o (k .entries) (k .boxes) (k .cache) (flatten (k .peers)) r → Passes g r j → Agrees g k j
-agrees-pass g m k l j o r s q p h =
-    let f : FitsAt k = lent-fits (rw q (s .fits .records)) (p .fits) in
-    let z : Recalls (passOf (k .state .pass)) j = subst (λ (x : PassNow). Recalls x j) (sym (p .pass)) (h .given) in
-    record { fits = f; config = p .config ∙ s .config; world = rw (lent-world f (p .world)) (h .world); given = z }
 
 -- no candidate is out
 false-true : {A : Type 0} → false ≡ true → A
@@ -56,27 +36,27 @@ none-out t q = false-true (sym (and-false t) ∙ q)
 module _ (g : MempoolConfig) (w : World) (p : PassNow) (l : Ledger) (s : SameWorld g w l) (h : Recalls p l) where
   -- ---- open
 
-  open-passes : (time limit preheader : ℕ) → Passes g (opened w p time limit preheader) l
+  open-passes : (time limit preheader : ℕ) → Tallies g (opened w p time limit preheader) l
   unfolding opened
   open-passes time limit preheader = go (p .isOpen) refl
     where
       go : (t : Bool) → p .isOpen ≡ t
-          → Passes g (pick t (still (refused 20 0) w p) (record { outcome = done; world = w; pass = record { isOpen = true; out = false; candidate = 0; time = time; limit = limit; preheader = preheader; spent = 0 } })) l
+          → Tallies g (pick t (still (refused 20 0) w p) (record { outcome = done; world = w; pass = record { isOpen = true; out = false; candidate = 0; time = time; limit = limit; preheader = preheader; spent = 0 } })) l
       go true e = record { world = s; given = h }
       go false e = record { world = s; given = λ q. false-true q }
 
   -- ---- next
 
-  given-passes : (ks : List ℕ) → Passes g (offered ks w p) (givesNext (readingOf (offered ks w p .outcome)) l)
+  given-passes : (ks : List ℕ) → Tallies g (offered ks w p) (givesNext (readingOf (offered ks w p .outcome)) l)
   unfolding offered givesNext
   given-passes [] = record { world = s; given = λ q. false-true q }
   given-passes (k ∷ ks) = record { world = record { book = s .book; charges = s .charges; fair = s .fair }; given = λ q. refl }
 
-  either : (t : Bool) (x y : PassResult) → Passes g x (givesNext (readingOf (x .outcome)) l) → Passes g y (givesNext (readingOf (y .outcome)) l) → Passes g (pick t x y) (givesNext (readingOf (pick t x y .outcome)) l)
+  either : (t : Bool) (x y : PassResult) → Tallies g x (givesNext (readingOf (x .outcome)) l) → Tallies g y (givesNext (readingOf (y .outcome)) l) → Tallies g (pick t x y) (givesNext (readingOf (pick t x y .outcome)) l)
   either true x y a b = a
   either false x y a b = b
 
-  next-passes : (c : MempoolConfig) → Passes g (nexted c w p) (givesNext (readingOf (nexted c w p .outcome)) l)
+  next-passes : (c : MempoolConfig) → Tallies g (nexted c w p) (givesNext (readingOf (nexted c w p .outcome)) l)
   unfolding nexted sought givesNext
   next-passes c =
       either (not (p .isOpen)) _ _ (record { world = s; given = h })
@@ -89,11 +69,11 @@ module _ (g : MempoolConfig) (w : World) (p : PassNow) (l : Ledger) (s : SameWor
   gone : (p .isOpen && p .out) ≡ true → SameBook (removeTx (p .candidate) (w .tables)) (allLeave (l .given) (l .book))
   gone q = rw (h q) (same-remove (p .candidate) (w .tables) (l .book) (s .book))
 
-  settle : (t : Bool) (x y : PassResult) → Passes g x (failed (readingOf (x .outcome)) l) → Passes g y (failed (readingOf (y .outcome)) l) → Passes g (pick t x y) (failed (readingOf (pick t x y .outcome)) l)
+  settle : (t : Bool) (x y : PassResult) → Tallies g x (failed (readingOf (x .outcome)) l) → Tallies g y (failed (readingOf (y .outcome)) l) → Tallies g (pick t x y) (failed (readingOf (pick t x y .outcome)) l)
   settle true x y a b = a
   settle false x y a b = b
 
-  weighed-passes : (c : MempoolConfig) → (p .isOpen && p .out) ≡ true → (v : Verdict) → Passes g (weighed c w p v) (failed (readingOf (weighed c w p v .outcome)) l)
+  weighed-passes : (c : MempoolConfig) → (p .isOpen && p .out) ≡ true → (v : Verdict) → Tallies g (weighed c w p v) (failed (readingOf (weighed c w p v .outcome)) l)
   unfolding weighed failed answeredWith
   weighed-passes c q Absent = record { world = s; given = h }
   weighed-passes c q Invalid = record { world = record { book = gone q; charges = s .charges; fair = s .fair }; given = λ z. none-out (p .isOpen) z }
@@ -103,12 +83,12 @@ module _ (g : MempoolConfig) (w : World) (p : PassNow) (l : Ledger) (s : SameWor
   unfolding answerRefusal
   is-out flags e = not-false _ (zero-not (not (p .isOpen && p .out)) 21 _ tt e .0)
 
-  answer-passes : (c : MempoolConfig) (flags : List ℕ) (v : Verdict) → Passes g (answered c w p flags v) (failed (readingOf (answered c w p flags v .outcome)) l)
+  answer-passes : (c : MempoolConfig) (flags : List ℕ) (v : Verdict) → Tallies g (answered c w p flags v) (failed (readingOf (answered c w p flags v .outcome)) l)
   unfolding answered failed answeredWith
   answer-passes c flags v = go (eqb (answerRefusal w p flags) 0) refl
     where
       go : (t : Bool) → eqb (answerRefusal w p flags) 0 ≡ t
-          → Passes g (pick t (pick (lacksInput w (p .candidate) flags) (goes (missing (p .candidate)) w p) (weighed c w p v)) (still (refused (answerRefusal w p flags) 0) w p))
+          → Tallies g (pick t (pick (lacksInput w (p .candidate) flags) (goes (missing (p .candidate)) w p) (weighed c w p v)) (still (refused (answerRefusal w p flags) 0) w p))
           (failed (readingOf (pick t (pick (lacksInput w (p .candidate) flags) (goes (missing (p .candidate)) w p) (weighed c w p v)) (still (refused (answerRefusal w p flags) 0) w p) .outcome)) l)
       go true e =
           let q : (p .isOpen && p .out) ≡ true = is-out flags (eqb-true _ 0 e) in
@@ -120,23 +100,18 @@ module _ (g : MempoolConfig) (w : World) (p : PassNow) (l : Ledger) (s : SameWor
 -- ---- the calls
 
 module _ (g : MempoolConfig) (m k : Moment) (l : Ledger) (o : Outcome) (s : Agrees g m l) where
-  pub open-agrees : (time limit preheader : ℕ) → Opened m k time limit preheader o → Agrees g k l
+  pub open-agrees : (time limit preheader : ℕ) → Step (Open time limit preheader) o m k → Agrees g k l
   open-agrees time limit preheader c =
-      let r : PassResult = opened (worldAt m) (passOf (m .state .pass)) time limit preheader in
-      let p : PassPost (m .state) (k .state) o (k .entries) (k .boxes) (k .cache) (flatten (k .peers)) r =
-      rw (c .rest .entries, c .rest .boxes, c .rest .cache, c .rest .peers, ← world-at m (s .fits)) (c .post (m .entries) (m .boxes) (m .cache) (flatten (m .peers)) (flat-at m (s .fits))) in
-      agrees-pass g m k l l o r s (c .rest .peers) p (open-passes g (worldAt m) (passOf (m .state .pass)) l (s .world) (s .given) time limit preheader)
+      became-agrees g m k l o (opened (worldAt m) (passAt m) time limit preheader) (λ x. l) s c (open-passes g (worldAt m) (passAt m) l (s .world) (s .given) time limit preheader)
 
-  pub next-agrees : Offered m k o → Agrees g k (givesNext (readingOf o) l)
+  pub next-agrees : Step Next o m k → Agrees g k (givesNext (readingOf o) l)
   next-agrees c =
-      let r : PassResult = nexted (m .state .config) (worldAt m) (passOf (m .state .pass)) in
-      let p : PassPost (m .state) (k .state) o (k .entries) (k .boxes) (k .cache) (flatten (k .peers)) r =
-      rw (c .rest .entries, c .rest .boxes, c .rest .cache, c .rest .peers, ← world-at m (s .fits)) (c .post (m .boxes) (m .cache) (flatten (m .peers)) (flat-at m (s .fits))) in
-      agrees-pass g m k l (givesNext (readingOf o) l) o r s (c .rest .peers) p (rw (p .outcome) (next-passes g (worldAt m) (passOf (m .state .pass)) l (s .world) (s .given) (m .state .config)))
+      became-agrees g m k l o (nexted (m .state .config) (worldAt m) (passAt m)) (λ x. givesNext x l) s c (next-passes g (worldAt m) (passAt m) l (s .world) (s .given) (m .state .config))
 
-  pub answer-agrees : (flags : List ℕ) (v : Verdict) → Answered m k flags v o → Agrees g k (failed (readingOf o) l)
+  pub answer-agrees : (flags : List ℕ) (v : Verdict) → Step (Answer flags v) o m k → Agrees g k (failed (readingOf o) l)
   answer-agrees flags v c =
-      let r : PassResult = answered (m .state .config) (worldAt m) (passOf (m .state .pass)) flags v in
-      let p : PassPost (m .state) (k .state) o (k .entries) (k .boxes) (k .cache) (flatten (k .peers)) r =
-      rw (c .peers, ← world-at m (s .fits)) (c .post (flatten (m .peers)) (flat-at m (s .fits))) in
-      agrees-pass g m k l (failed (readingOf o) l) o r s (c .peers) p (rw (p .outcome) (answer-passes g (worldAt m) (passOf (m .state .pass)) l (s .world) (s .given) (m .state .config) flags v))
+      became-agrees g m k l o (answered (m .state .config) (worldAt m) (passAt m) flags v) (λ x. failed x l) s c (answer-passes g (worldAt m) (passAt m) l (s .world) (s .given) (m .state .config) flags v)
+
+  -- nothing changed: a query, or a start that was refused
+  pub still-agrees : Becomes m k o (still o (worldAt m) (passAt m)) → Agrees g k l
+  still-agrees c = became-agrees g m k l o (still o (worldAt m) (passAt m)) (λ x. l) s c (record { world = s .world; given = s .given })

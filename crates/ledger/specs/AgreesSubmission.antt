@@ -1,12 +1,11 @@
 -- A submission keeps the agreement, and its refusals 24 to 26 are those of the ledger's charges.
-use Prim.Native.Nat.{ℕ, _+_, _^_, _/_, _≤_, _<_}
+use Prim.Native.Nat.{ℕ, _+_, _^_, _≤_, _<_}
 use mathlib.Core.Path.{_≡_, refl, sym, ap, _∙_}
 use mathlib.Core.Bool.{Bool, true, false, not, _&&_, _||_}
-use mathlib.Core.List.{List, [], _∷_}
+use mathlib.Core.List.{List}
 use native.Mathlib.Omega.{arith}
 use native.Mathlib.Decide.{decLe}
 use lib.Dec.{eqb, leb, ltb}
-use lib.ListN.{length}
 use borrow.Author.Tests.{eqb-true}
 use Rattle.words.specs.Lists.{pick}
 use Rattle.words.specs.Ids.{idOf}
@@ -23,29 +22,27 @@ use Rattle.arguments.specs.Arguments.{whole, records, feeOf, heightKey, aheadOf
 use Rattle.expiring_cache.specs.Cache.{Held, held}
 use Rattle.peers.specs.Peers.{atLimit, noneFree, standing}
 use Rattle.peers.specs.declared.Standing.{Standing}
-use Rattle.entries.specs.Entries.{Entry, pooled}
+use Rattle.entries.specs.Entries.{pooled}
 use Rattle.entries.specs.Layout.{entriesRoom}
 use Rattle.boxes.specs.Layout.{boxesRoom}
 use Rattle.boxes.specs.Records.{index}
 use Rattle.indexes.specs.Resolved.{allResolved, submitted}
 use Rattle.pool.specs.Pool.{Tables, noRoom}
-use Rattle.store.specs.World.{World, Result, unchanged}
-use Rattle.checks.specs.Checks.{dear, remote, first, callRefusal, peerRefusal, stateRefusal, listRefusal, refusalOf}
+use Rattle.store.specs.World.{World, unchanged}
+use Rattle.checks.specs.Checks.{dear, remote, callRefusal, peerRefusal, stateRefusal, listRefusal, refusalOf}
 use Rattle.checks.specs.Passed.{Passed, Welcome, passed}
 use Rattle.admit.specs.Admit.{Admitted, costOf, admitSpec}
 use Rattle.process.specs.Process.{standingOf, admitted, judged, processed}
-use Rattle.process.specs.Post.{limitsOf}
-use Rattle.lent.specs.Post.{lentResult}
-use Rattle.ledger.specs.Charges.{Charge, charges, totalCharged, chargedTo, Fair}
-use Rattle.ledger.specs.Same.{SameBook}
-use Rattle.ledger.specs.SameCharges.{SameCharges, Below, same-charge}
+use Rattle.ledger.specs.Charges.{charges, totalCharged, chargedTo}
+use Rattle.ledger.specs.SameCharges.{Below, same-charge}
 use Rattle.ledger.specs.ChargeRefusals.{met-limit}
-use Rattle.ledger.specs.Ledger.{Ledger, withBook, visitCap, submittedCost, chargeFor, turnedAway, hearsSubmission}
+use Rattle.ledger.specs.Ledger.{Submit, Ledger, visitCap, chargeFor, turnedAway, hearsSubmission}
 use Rattle.ledger.specs.Admissions.{cost-is, Settles, admission-same}
 use Rattle.ledger.specs.Limited.{submission-limits}
 use Rattle.ledger.specs.Demand3.{FailsExactly}
-use Rattle.ledger.specs.Run.{Moment, worldAt, FitsAt, Submitted}
-use Rattle.ledger.specs.Agrees.{Bounds, SameWorld, Agrees, Remembers, used-is}
+use Rattle.ledger.specs.Run.{Moment, worldAt, limitsAt, passKept, Step}
+use Rattle.ledger.specs.Steps.{fits-pool, used-is}
+use Rattle.ledger.specs.Agrees.{Bounds, SameWorld, Agrees, became-agrees}
 
 -- ---- the numbers that the tests give charge nobody
 
@@ -164,29 +161,24 @@ module _ (g : MempoolConfig) (bounds : Bounds g) (m : Moment) (l : Ledger) (s : 
     judges Invalid e = record { same = record { book = s .world .book; charges = s .world .charges; fair = s .world .fair }; given = refl }
     judges (Valid c) e = rw (s .config) (admits c e)
 
-  keeps : Keeps g (processed (limitsOf (m .entries) (m .boxes)) st w room a ins outs .world) l (hearsSubmission g a ins outs (readingOf (processed (limitsOf (m .entries) (m .boxes)) st w room a ins outs .outcome)) l)
+  keeps : Keeps g (processed (limitsAt m) st w room a ins outs .world) l (hearsSubmission g a ins outs (readingOf (processed (limitsAt m) st w room a ins outs .outcome)) l)
   unfolding processed
   keeps = go (eqb n 0) refl
     where
       go : (t : Bool) → eqb n 0 ≡ t → Keeps g (pick t (judged visitCap st w a ins outs (a .verdict)) (unchanged (refused n 0) w) .world) l (hearsSubmission g a ins outs (readingOf (pick t (judged visitCap st w a ins outs (a .verdict)) (unchanged (refused n 0) w) .outcome)) l)
-      go true e = judges (passed 5000 (m .entries) (m .boxes) st room (w .cache) at a ins outs (s .fits .ready .tests .pool) (eqb-true n 0 e)) (a .verdict) refl
+      go true e = judges (passed 5000 (m .entries) (m .boxes) st room (w .cache) at a ins outs (fits-pool m (s .fits)) (eqb-true n 0 e)) (a .verdict) refl
       go false e = rw (quiet-same g a ins outs n l (refusal-quiet 5000 (entriesRoom (m .entries)) (boxesRoom (m .boxes)) room st (w .tables) (w .cache) at a ins outs)) (record { same = s .world; given = refl })
 
 -- ---- the call
 
-pub submission-agrees : (g : MempoolConfig) → Bounds g → (m k : Moment) (l : Ledger) (a : Submission) (ins outs : List ℕ) (o : Outcome) → Agrees g m l → Submitted m k a ins outs o
-    → Agrees g k (hearsSubmission g a ins outs (readingOf o) l) × FailsExactly g (a .source) (readingOf o) (l .charged)
-submission-agrees g bounds m k l a ins outs o s c =
-    let p = c .post (s .fits) in
-    let r : Result = lentResult (m .entries) (m .boxes) (m .cache) (m .peers) (c .was) (m .state) a ins outs in
-    let e : o ≡ r .outcome = c .outcome ∙ p .outcome in
-    let z = keeps g bounds m l s (length (c .was) / 4) a ins outs in (
-      rw e
-          (record {
-            fits = p .fits;
-            config = p .config ∙ s .config;
-            world = rw (p .world) (z .same);
-            given = λ h. z .given ∙ rw (← p .pass) at (s .given (rw (p .pass) at h));
-          }),
-      rw (e, ← s .config) (submission-limits (limitsOf (m .entries) (m .boxes)) (m .state) (worldAt m) (length (c .was) / 4) a ins outs (l .charged) (s .world .charges) refl (used-is m (s .fits)) (rw (s .config) (bounds .one))),
-    )
+module _ (g : MempoolConfig) (bounds : Bounds g) (m k : Moment) (l : Ledger) (a : Submission) (ins outs : List ℕ) (o : Outcome) (s : Agrees g m l) (c : Step (Submit a ins outs) o m k) where
+  pub submission-agrees : Agrees g k (hearsSubmission g a ins outs (readingOf o) l)
+  submission-agrees =
+      let z = keeps g bounds m l s (c .room) a ins outs in
+      became-agrees g m k l o (passKept m (processed (limitsAt m) (m .state) (worldAt m) (c .room) a ins outs)) (λ x. hearsSubmission g a ins outs x l) s (c .left)
+      (record { world = z .same; given = λ h. z .given ∙ s .given h })
+
+  pub submission-fails : FailsExactly g (a .source) (readingOf o) (l .charged)
+  submission-fails =
+      rw (c .left (s .fits) .outcome, ← s .config)
+      (submission-limits (limitsAt m) (m .state) (worldAt m) (c .room) a ins outs (l .charged) (s .world .charges) refl (used-is m (s .fits)) (rw (s .config) (bounds .one)))

@@ -1,7 +1,7 @@
 -- The ledger's book (document 01, "Demand 3": "It holds transactions (id, base, input and output box ids) with their credits, .. both indexes by the
--- pool's rule"): what enters it, what leaves it and what is credited, reckoned from the book alone. Shared with the pool's definitions are words of the
--- field: the cap and a total (words), weight falling then id rising (`ahead`), a pair of an index and its lookup, and a walk (`walked`: last
--- producer first, so many visits).
+-- pool's rule"): what enters it, what leaves it and what is credited, reckoned from the book alone. Shared with the pool's definitions are words, namely the
+-- cap, a total, and a pair of an index and its lookup; and two rules: weight falling then id rising (`ahead`), and a walk (`walked`: last producer first,
+-- so many visits).
 use Prim.Native.Nat.{ℕ, zero, suc, _+_}
 use mathlib.Core.Path.{_≡_, refl}
 use mathlib.Core.Bool.{Bool, true, false}

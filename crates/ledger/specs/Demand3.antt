@@ -1,12 +1,12 @@
 -- Demand 3 (document 01), as one record: its sentences in its order, over every list of calls from what an accepted start left. The ledger is
 -- `told g h`; the pool is what the lent words decode to.
 use Prim.Native.Nat.{ℕ, _≤_}
-use mathlib.Core.Path.{_≡_, refl}
+use mathlib.Core.Path.{_≡_}
 use mathlib.Core.Bool.{Bool, true, false, not, _&&_}
 use mathlib.Core.List.{List, [], _∷_, _++_, map}
 use lib.Dec.{leb}
 use lib.ListN.{length, replicate}
-use Rattle.words.specs.Lists.{pick, count, Once}
+use Rattle.words.specs.Lists.{count, Once}
 use Rattle.words.specs.Find.{found}
 use Rattle.words.specs.Ids.{idOf}
 use Rattle.pool_types.specs.declared.MempoolConfig.{MempoolConfig}
@@ -21,7 +21,7 @@ use Rattle.boxes.specs.Among.{among}
 use Rattle.boxes.specs.Records.{BoxRec, Pair, index, inputsOf}
 use Rattle.pool.specs.Pool.{Tables}
 use Rattle.family.specs.Chains.{over, chains}
-use Rattle.ledger.specs.Book.{Tx, Book, txWeight, walks, evicts, parentsIn}
+use Rattle.ledger.specs.Book.{Book, txWeight, walks, evicts, parentsIn}
 use Rattle.ledger.specs.Charges.{Charge, totalCharged, chargedTo, payers, Fair}
 use Rattle.ledger.specs.Ledger.{Call, Submit, Return, Block, Invalidate, Open, Next, Answer, Start, Ask, Ledger, visitCap, submittedBase, entered, Heard, told}
 use Rattle.ledger.specs.Uses.{outputsOf}

@@ -1,10 +1,9 @@
 -- The ledger of demand 3 (document 01, "Demand 3"): "fed the start's settings and each call's arguments and outcome, nothing else. It holds transactions ..
 -- with their credits, the charges, both indexes by the pool's rule, and the id that next gave last." No definition of a call of the pool is used here,
--- and no answer buffer: losers, evicted ones, those a block removes and the walk are reckoned on the ledger's own book. Shared words are the types of
--- arguments and outcomes, how flat words are read as ids (`idsOf`), outputs as a fee (`feeOf`) and a block's two lists as transactions (`confirmedOf`),
--- and the base (`feePerFactor`).
+-- and no answer buffer: losers, evicted ones, those a block removes and the walk are reckoned on the ledger's own book. Shared with the pool's definitions
+-- are words, namely the types of arguments and outcomes, and how flat words are read as ids (`idsOf`) and a block's two lists as transactions
+-- (`confirmedOf`); and two rules: outputs as a fee (`feeOf`), and the base (`feePerFactor`).
 use Prim.Native.Nat.{ℕ, max}
-use mathlib.Core.Path.{_≡_, refl}
 use mathlib.Core.Bool.{Bool, true, false, _||_}
 use mathlib.Core.List.{List, [], _∷_}
 use lib.Dec.{eqb}

@@ -2,6 +2,7 @@ pub mod Book
 pub mod Charges
 pub mod Ledger
 pub mod Run
+pub mod Steps
 pub mod Demand3
 pub mod ChargeLaws
 pub mod SameCharges

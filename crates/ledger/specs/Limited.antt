@@ -1,12 +1,12 @@
 -- Refusals 24, 25 and 26 of a submission, read on the ledger's charges: the chain of tests in the order of document 01.
 use Prim.Native.Nat.{ℕ, _+_, _≤_, _<_}
-use mathlib.Core.Path.{_≡_, refl, sym, ap, _∙_}
+use mathlib.Core.Path.{_≡_, refl, sym, _∙_}
 use mathlib.Core.Bool.{Bool, true, false, not, _&&_, _||_}
 use mathlib.Core.List.{List, [], _∷_}
 use native.Mathlib.Omega.{arith}
 use lib.Dec.{eqb, leb, ltb}
 use lib.ListN.{length}
-use borrow.Author.Tests.{leb-true, leb-false, lt-leb, le-leb}
+use borrow.Author.Tests.{lt-leb}
 use Rattle.words.specs.Lists.{pick}
 use Rattle.words.specs.Ids.{idOf}
 use Rattle.words.specs.Sums.{cap}
@@ -19,9 +19,8 @@ use Rattle.pool_types.specs.declared.Verdict.{Verdict}
 use Rattle.pool_types.specs.declared.Verdict.the-variants.{Valid, Invalid, Absent}
 use Rattle.pool_types.specs.Outcomes.{Outcome, refused, declined, readingOf}
 use Rattle.arguments.specs.Arguments.{whole, records, feeOf, heightKey, aheadOf}
-use Rattle.expiring_cache.specs.Cache.{Held, held}
-use Rattle.peers.specs.declared.PeerRecord.{PeerRecord}
-use Rattle.entries.specs.Entries.{Entry, pooled}
+use Rattle.expiring_cache.specs.Cache.{held}
+use Rattle.entries.specs.Entries.{pooled}
 use Rattle.boxes.specs.Among.{among, among-cons}
 use Rattle.boxes.specs.Records.{index}
 use Rattle.indexes.specs.Resolved.{allResolved, submitted}
@@ -34,7 +33,7 @@ use Rattle.ledger.specs.Charges.{Charge, totalCharged, chargedTo, payers
 use Rattle.ledger.specs.ChargeLaws.{payers-are, unpaid-none}
 use Rattle.ledger.specs.SameCharges.{SameCharges}
 use Rattle.ledger.specs.ChargeRefusals.{chargeRefusal, refusal-is}
-use Rattle.ledger.specs.Demand3.{refusedBy, remoteWith, earlier, FailsExactly}
+use Rattle.ledger.specs.Demand3.{refusedBy, earlier, FailsExactly}
 
 false-true : {A : Type 0} → false ≡ true → A
 false-true q = let z : _≡_ {A = ℕ} 0 1 = cc in absurd (omega arith)

@@ -1,24 +1,21 @@
 -- Demand 3 (document 01): over every list of calls from what an accepted start left, the pool is what the ledger says.
-use Prim.Native.Nat.{ℕ, _^_, _≤_, _<_, max}
-use mathlib.Core.Path.{_≡_, refl, sym, ap, ap₂, _∙_, subst}
-use mathlib.Core.Bool.{Bool, true, false, not, _&&_}
+use Prim.Native.Nat.{ℕ, _≤_, max}
+use mathlib.Core.Path.{_≡_, refl, sym, ap, _∙_}
+use mathlib.Core.Bool.{Bool, true, false, not}
 use mathlib.Core.List.{List, [], _∷_, map, map-map}
 use native.Mathlib.Omega.{arith}
 use lib.Dec.{eqb, leb, ltb}
 use lib.ListN.{length}
 use borrow.Author.Tests.{leb-true, ltb-false, eqb-true, eqb-false}
-use Rattle.words.specs.Lists.{pick, count}
+use Rattle.words.specs.Lists.{pick}
 use Rattle.words.specs.Find.{found}
-use Rattle.words.specs.Ids.{idOf}
 use Rattle.pool_types.specs.declared.Mempool.{Mempool}
 use Rattle.pool_types.specs.declared.MempoolConfig.{MempoolConfig}
 use Rattle.pool_types.specs.declared.Submission.{Submission}
-use Rattle.pool_types.specs.declared.StartOutcome.{StartOutcome}
 use Rattle.pool_types.specs.declared.StartOutcome.the-variants.{Ready, NotStarted}
 use Rattle.pool_types.specs.Outcomes.{Outcome, Reading, declined, did, offers, fails, tells, readingOf}
-use Rattle.entries.specs.Entries.{Entry, pooled}
-use Rattle.boxes.specs.Records.{BoxRec, Pair, index, inputsOf}
-use Rattle.boxes.specs.Among.{among}
+use Rattle.entries.specs.Entries.{Entry}
+use Rattle.boxes.specs.Records.{BoxRec, Pair, inputsOf}
 use Rattle.pool.specs.Pool.{Tables}
 use Rattle.words.specs.Tables.{of-none}
 use Rattle.entries.specs.Layout.{entries}
@@ -27,45 +24,41 @@ use Rattle.boxes.specs.Layout.{no-boxes}
 use Rattle.boxes.specs.Layout.{room-ok as boxes-room}
 use Rattle.expiring_cache.specs.Layout.{ok-room as cache-room}
 use Rattle.store.specs.Fits.{goes-on, un-not}
-use Rattle.mempool.specs.Start.{Sizes, sized, settled, within, empty, started}
-use Rattle.lent.specs.Lent.{LentFits}
-use Rattle.ledger.specs.Book.{Tx, Book, inBook, insOf, outsOf, txWeight}
-use Rattle.ledger.specs.Charges.{Fair}
+use Rattle.mempool.specs.Start.{sized, settled, within, empty, started}
+use Rattle.ledger.specs.Book.{Tx, Book, insOf, outsOf}
 use Rattle.ledger.specs.ChargeLaws.{in-among}
 use Rattle.ledger.specs.Same.{Brief, briefOf, viewOf, SameBook}
 use Rattle.ledger.specs.SameLaws.{same-none as book-none}
 use Rattle.ledger.specs.SameCharges.{same-none as charges-none}
 use Rattle.ledger.specs.Uses.{outputsOf}
-use Rattle.ledger.specs.Readings.{Named, found-same, ids-once, in-strict-order, length-same, pooled-same, weights-same, bases-same, inputs-same, outputs-same, named-spender, named-producer}
+use Rattle.ledger.specs.Readings.{Named, found-same, ids-once, in-strict-order, length-same, pooled-same, weights-same, inputs-same, outputs-same, named-spender, named-producer}
 use Rattle.ledger.specs.BookCredits.{credits-for-chains}
 use Rattle.ledger.specs.Ledger.{Call, Submit, Return, Block, Invalidate, Open, Next, Answer, Start, Ask, Ledger, Heard, told, entersSubmission, hearsSubmission, ledger}
-use Rattle.ledger.specs.Run.{Moment, worldAt, FitsAt, sizesAt, Step, Run, begin, call}
+use Rattle.ledger.specs.Run.{Moment, moment, worldAt, FitsAt, sizesAt, Step, Run, begin, call}
+use Rattle.ledger.specs.Steps.{fits-made}
 use Rattle.ledger.specs.Demand3.{Known, pooledAs, heldAs, Names, CreditsChains, FailsExactly, ofSubmit, everySubmission, Demand3}
-use Rattle.ledger.specs.Agrees.{Bounds, SameWorld, Agrees}
-use Rattle.ledger.specs.AgreesSubmission.{submission-agrees}
+use Rattle.ledger.specs.Agrees.{Bounds, Agrees}
+use Rattle.ledger.specs.AgreesSubmission.{submission-agrees, submission-fails}
 use Rattle.ledger.specs.AgreesCalls.{return-agrees, invalidation-agrees, block-agrees}
-use Rattle.ledger.specs.AgreesPasses.{open-agrees, next-agrees, answer-agrees}
+use Rattle.ledger.specs.AgreesPasses.{open-agrees, next-agrees, answer-agrees, still-agrees}
 
 -- ---- one call
 
 module _ (g : MempoolConfig) (bounds : Bounds g) (m k : Moment) (l : Ledger) (o : Outcome) (s : Agrees g m l) where
-  stays : k ≡ m → Agrees g k l
-  stays e = subst (λ x. Agrees g x l) (sym e) s
-
   step-agrees : (c : Call) → Step c o m k → Agrees g k (ledger g c o l)
   unfolding ledger
-  step-agrees (Submit a ins outs) x = submission-agrees g bounds m k l a ins outs o s x .0
+  step-agrees (Submit a ins outs) x = submission-agrees g bounds m k l a ins outs o s x
   step-agrees (Return u ins outs) x = return-agrees g m k l u ins outs o s x
   step-agrees (Block time txs ins) x = block-agrees g m k l time txs ins o s x
   step-agrees (Invalidate time j) x = invalidation-agrees g m k l time j o s x
   step-agrees (Open time limit preheader) x = open-agrees g m k l o s time limit preheader x
   step-agrees Next x = next-agrees g m k l o s x
   step-agrees (Answer flags v) x = answer-agrees g m k l o s flags v x
-  step-agrees (Start time c) x = stays (x .same)
-  step-agrees (Ask q) x = stays (x .same)
+  step-agrees (Start time c) x = still-agrees g m k l o s (x .left)
+  step-agrees (Ask q) x = still-agrees g m k l o s x
 
   step-limits : (c : Call) → Step c o m k → ofSubmit (λ a ins outs. FailsExactly g (a .source) (readingOf o) (l .charged)) c
-  step-limits (Submit a ins outs) x = submission-agrees g bounds m k l a ins outs o s x .1
+  step-limits (Submit a ins outs) x = submission-fails g bounds m k l a ins outs o s x
   step-limits (Return u ins outs) x = tt
   step-limits (Block time txs ins) x = tt
   step-limits (Invalidate time j) x = tt
@@ -138,15 +131,11 @@ module _ (m : Moment) (g : MempoolConfig) (e : Ready (m .state) ≡ started (siz
       let j = goes-on (leb (sizesAt m .entries) (g .capacity)) _ (accepted .fine) in
       let k = goes-on (ltb (sizesAt m .cache) (g .«invalidation_capacity»)) _ (j .1) in
       rw (accepted .state)
-      (record {
-        ready =
-            record {
-              tests = record { pool = record { entries = entries-room (m .entries) 0 (omega arith); boxes = boxes-room (m .boxes) 0 (omega arith) }; cache = cache-room (m .cache) 0 (omega arith) };
-              keeps = fits-cache (g .«invalidation_capacity») _ (within-one _ _ (un-not _ (r .0))) (ltb-false _ _ (k .0));
-              used = omega arith;
-            };
-        records = omega (arith, eqb-true (length (m .peers)) 256 (r .1));
-      })
+      (fits-made (moment (m .entries) (m .boxes) (m .cache) (m .peers) (empty g))
+      (record { pool = record { entries = entries-room (m .entries) 0 (omega arith); boxes = boxes-room (m .boxes) 0 (omega arith) }; cache = cache-room (m .cache) 0 (omega arith) })
+      (fits-cache (g .«invalidation_capacity») _ (within-one _ _ (un-not _ (r .0))) (ltb-false _ _ (k .0)))
+      (omega arith)
+      (omega (arith, eqb-true (length (m .peers)) 256 (r .1))))
     where
       within-one : (n most : ℕ) → within n most ≡ true → 1 ≤ n
       within-one n most h = by (eqb n 0) refl h

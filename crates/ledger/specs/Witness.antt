@@ -2,22 +2,19 @@
 -- some that a reader can follow, and that a wrong book or ledger fails by computation.
 use Prim.Native.Nat.{ℕ}
 use mathlib.Core.Path.{_≡_, refl}
-use mathlib.Core.Bool.{Bool, true, false, _&&_}
+use mathlib.Core.Bool.{false}
 use mathlib.Core.List.{List, [], _∷_, map}
-use Rattle.words.specs.Ids.{idOf}
 use Rattle.pool_types.specs.declared.MempoolConfig.{MempoolConfig}
 use Rattle.pool_types.specs.declared.FeeStrategy.the-variants.{FeePerByte}
 use Rattle.pool_types.specs.declared.Source.the-variants.{Local}
 use Rattle.pool_types.specs.Outcomes.{refused, wrote}
 use Rattle.entries.specs.Entries.{Entry, ahead}
 use Rattle.entries.specs.declared.fields.ValidationCost.the-variants.{Unmeasured}
-use Rattle.boxes.specs.Flat.{idsTo}
 use Rattle.boxes.specs.Records.{Pair, index}
 use Rattle.pool.specs.Pool.{Tables, insertTx, removeTx, evict}
 use Rattle.family.specs.Family.{propagated}
 use Rattle.returns.specs.declared.UnconfirmedTx.{UnconfirmedTx}
-use Rattle.ledger.specs.Book.{Tx, Book, book, txWeight, enters, leaves, walks, evicts}
-use Rattle.ledger.specs.Charges.{Charge}
+use Rattle.ledger.specs.Book.{Book, book, txWeight, enters, leaves, walks, evicts}
 use Rattle.ledger.specs.Same.{Brief, briefOf, viewOf, inOrder}
 use Rattle.ledger.specs.Ledger.{Ledger, emptyLedger, Block, ledger, entersReturn, mined}
 use Rattle.ledger.specs.Demand3.{PriorityOrder}
