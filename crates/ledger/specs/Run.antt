@@ -15,14 +15,14 @@ use Rattle.expiring_cache.specs.Layout.{cacheRoom}
 use Rattle.peers.specs.declared.PeerRecord.{PeerRecord}
 use Rattle.entries.specs.Layout.{entriesRoom}
 use Rattle.boxes.specs.Layout.{boxesRoom}
-use Rattle.store.specs.World.{World, Result}
-use Rattle.mempool.specs.Start.{Sizes, sizes, started}
+use Rattle.store.specs.World.{World, world, worldOf, Result}
+use Rattle.store.specs.Fits.{Fits}
+use Rattle.mempool.specs.Start.{Sizes, sizes, empty, started}
 use Rattle.process.specs.Process.{Limits, processed}
 use Rattle.process.specs.Post.{limitsOf}
 use Rattle.returns.specs.Returns.{returned, invalidated}
 use Rattle.blocks.specs.Blocks.{applied}
-use Rattle.cleanup.specs.Passes.{PassNow, passOf, PassResult, still, opened, nexted, answered}
-use Rattle.lent.specs.Lent.{lentWorld, LentFits}
+use Rattle.cleanup.specs.Passes.{PassNow, passOf, noPass, PassResult, still, opened, nexted, answered}
 use Rattle.ledger.specs.Ledger.{Call, Submit, Return, Block, Invalidate, Open, Next, Answer, Start, Ask, Heard}
 
 -- store and state between two calls
@@ -40,10 +40,10 @@ moment e b k ys st = record { entries = e; boxes = b; cache = k; peers = ys; sta
 
 -- what the words and records decode to, and that the counts of the state fit them
 abbrev pub worldAt : Moment → World
-worldAt m = lentWorld (m .entries) (m .boxes) (m .cache) (m .peers) (m .state)
+worldAt m = worldOf (m .entries) (m .boxes) (m .cache) (m .peers) (m .state)
 
 abbrev pub FitsAt : Moment → Type 0
-FitsAt m = LentFits (m .entries) (m .boxes) (m .cache) (m .peers) (m .state)
+FitsAt m = Fits (m .entries) (m .boxes) (m .cache) (m .peers) (m .state)
 
 abbrev pub passAt : Moment → PassNow
 passAt m = passOf (m .state .pass)
@@ -106,7 +106,20 @@ Step (Answer flags v) o m n = Becomes m n o (answered (m .state .config) (worldA
 Step (Start time c) o m n = StartStep m n c o
 Step (Ask q) o m n = Becomes m n o (still o (worldAt m) (passAt m))
 
--- "what an accepted start left", with a peer limit of at least 1; then call by call
+-- a store that holds nothing: no transaction, no id once found invalid, no charge
+abbrev pub nothing : World
+nothing = world (record { entries = []; boxes = [] }) [] 0 []
+
+-- "what an accepted start left": a store of these sizes may be started with these settings; nothing is held, and no pass is open
+pub record Begun (g : MempoolConfig) (m : Moment) : Type 0 where
+  pub sizes : Sizes
+  pub accepted : started sizes g ≡ Ready (empty g)
+  pub fits : FitsAt m
+  pub config : m .state .config ≡ g
+  pub world : worldAt m ≡ nothing
+  pub pass : passAt m ≡ noPass
+
+-- with a peer limit of at least 1; then call by call
 pub data Run (g : MempoolConfig) : List Heard → Moment → Type 0 where
-  begin : (m : Moment) → Ready (m .state) ≡ started (sizesAt m) g → 1 ≤ g .«cost_per_peer_per_block» → Run g [] m
+  begin : (m : Moment) → Begun g m → 1 ≤ g .«cost_per_peer_per_block» → Run g [] m
   call : {h : List Heard} {m : Moment} (c : Call) (o : Outcome) (n : Moment) → Run g h m → Step c o m n → Run g (record { call = c; outcome = o } ∷ h) n

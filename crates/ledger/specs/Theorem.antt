@@ -1,6 +1,6 @@
 -- Demand 3 (document 01): over every list of calls from what an accepted start left, the pool is what the ledger says.
 use Prim.Native.Nat.{ℕ, _≤_, max}
-use mathlib.Core.Path.{_≡_, refl, sym, ap, _∙_}
+use mathlib.Core.Path.{_≡_, refl, sym, ap, subst, _∙_}
 use mathlib.Core.Bool.{Bool, true, false, not}
 use mathlib.Core.List.{List, [], _∷_, map, map-map}
 use native.Mathlib.Omega.{arith}
@@ -23,8 +23,13 @@ use Rattle.entries.specs.Layout.{ok-room as entries-room}
 use Rattle.boxes.specs.Layout.{no-boxes}
 use Rattle.boxes.specs.Layout.{room-ok as boxes-room}
 use Rattle.expiring_cache.specs.Layout.{ok-room as cache-room}
+use Rattle.store.specs.World.{World, worldOf}
 use Rattle.store.specs.Fits.{goes-on, un-not}
-use Rattle.mempool.specs.Start.{sized, settled, within, empty, started}
+use Rattle.cleanup.specs.Passes.{PassNow, passOf, noPass, still}
+use Rattle.cleanup.specs.Laws.{no-id}
+use Rattle.expiring_cache.specs.Layout.{rows}
+use Rattle.peers.specs.declared.PeerRecord.{PeerRecord}
+use Rattle.mempool.specs.Start.{Sizes, sized, settled, within, empty, started}
 use Rattle.ledger.specs.Book.{Tx, Book, insOf, outsOf}
 use Rattle.ledger.specs.ChargeLaws.{in-among}
 use Rattle.ledger.specs.Same.{Brief, briefOf, viewOf, SameBook}
@@ -34,10 +39,10 @@ use Rattle.ledger.specs.Uses.{outputsOf}
 use Rattle.ledger.specs.Readings.{Named, found-same, ids-once, in-strict-order, length-same, pooled-same, weights-same, inputs-same, outputs-same, named-spender, named-producer}
 use Rattle.ledger.specs.BookCredits.{credits-for-chains}
 use Rattle.ledger.specs.Ledger.{Call, Submit, Return, Block, Invalidate, Open, Next, Answer, Start, Ask, Ledger, Heard, told, entersSubmission, hearsSubmission, ledger}
-use Rattle.ledger.specs.Run.{Moment, moment, worldAt, FitsAt, sizesAt, Step, Run, begin, call}
+use Rattle.ledger.specs.Run.{Moment, moment, worldAt, FitsAt, passAt, sizesAt, Becomes, Step, nothing, Begun, Run, begin, call}
 use Rattle.ledger.specs.Steps.{fits-made}
 use Rattle.ledger.specs.Demand3.{Known, pooledAs, heldAs, Names, CreditsChains, FailsExactly, ofSubmit, everySubmission, Demand3}
-use Rattle.ledger.specs.Agrees.{Bounds, Agrees}
+use Rattle.ledger.specs.Agrees.{Bounds, SameWorld, Recalls, Agrees}
 use Rattle.ledger.specs.AgreesSubmission.{submission-agrees, submission-fails}
 use Rattle.ledger.specs.AgreesCalls.{return-agrees, invalidation-agrees, block-agrees}
 use Rattle.ledger.specs.AgreesPasses.{open-agrees, next-agrees, answer-agrees, still-agrees}
@@ -96,46 +101,68 @@ every-chain g (x ∷ h) = (call-chains g (x .call) (x .outcome) (told g h), ever
 
 -- ---- what an accepted start left
 
-module _ (m : Moment) (g : MempoolConfig) (e : Ready (m .state) ≡ started (sizesAt m) g) where
-  no-ready : {A : Type 0} (n : ℕ) → Ready (m .state) ≡ NotStarted n → A
-  no-ready n q = let z : _≡_ {A = ℕ} 0 1 = cc in absurd (omega arith)
+-- a start that is accepted hands back the empty state, and its tests were met
+pub record Accepted (z : Sizes) (g : MempoolConfig) (st : Mempool) : Type 0 where
+  pub size : sized z ≡ true
+  pub fine : settled z g ≡ true
+  pub state : st ≡ empty g
 
-  record Accepted : Type 0 where
-    size : sized (sizesAt m) ≡ true
-    fine : settled (sizesAt m) g ≡ true
-    state : m .state ≡ empty g
+pub accepted-start : (z : Sizes) (g : MempoolConfig) (st : Mempool) → started z g ≡ Ready st → Accepted z g st
+unfolding started
+accepted-start z g st e = go (sized z) refl (settled z g) refl e
+  where
+    no-ready : {A : Type 0} (n : ℕ) → NotStarted n ≡ Ready st → A
+    no-ready n q = let y : _≡_ {A = ℕ} 0 1 = cc in absurd (omega arith)
 
-  accepted : Accepted
-  unfolding started
-  accepted = go (sized (sizesAt m)) refl (settled (sizesAt m) g) refl e
-    where
-      go : (t : Bool) → sized (sizesAt m) ≡ t → (u : Bool) → settled (sizesAt m) g ≡ u → Ready (m .state) ≡ pick t (pick u (Ready (empty g)) (NotStarted 6)) (NotStarted 6) → Accepted
-      go true p true q z = record { size = p; fine = q; state = cc }
-      go true p false q z = no-ready 6 z
-      go false p u q z = no-ready 6 z
+    go : (t : Bool) → sized z ≡ t → (u : Bool) → settled z g ≡ u → pick t (pick u (Ready (empty g)) (NotStarted 6)) (NotStarted 6) ≡ Ready st → Accepted z g st
+    go true p true q x = record { size = p; fine = q; state = cc }
+    go true p false q x = no-ready 6 x
+    go false p u q x = no-ready 6 x
 
-  pub bounds-of : 1 ≤ g .«cost_per_peer_per_block» → Bounds g
-  unfolding settled
-  bounds-of one =
-      let p = goes-on (leb (sizesAt m .entries) (g .capacity)) _ (accepted .fine) in
-      let q = goes-on (ltb (sizesAt m .cache) (g .«invalidation_capacity»)) _ (p .1) in
-      let r = goes-on (ltb 9223372036854775808 (g .«cost_per_block»)) _ (q .1) in
-      record { block = ltb-false _ _ (r .0); peer = leb-true _ _ (r .1); one = one }
+bounds-of : (z : Sizes) (g : MempoolConfig) → settled z g ≡ true → 1 ≤ g .«cost_per_peer_per_block» → Bounds g
+unfolding settled
+bounds-of z g fine one =
+    let p = goes-on (leb (z .entries) (g .capacity)) _ fine in
+    let q = goes-on (ltb (z .cache) (g .«invalidation_capacity»)) _ (p .1) in
+    let r = goes-on (ltb 9223372036854775808 (g .«cost_per_block»)) _ (q .1) in
+    record { block = ltb-false _ _ (r .0); peer = leb-true _ _ (r .1); one = one }
 
-  start-fits : FitsAt m
+start-agrees : (m : Moment) (g : MempoolConfig) → Begun g m → Agrees g m (told g [])
+start-agrees m g b =
+    record {
+      fits = b .fits;
+      config = b .config;
+      world = subst (λ (w : World). SameWorld g w (told g [])) (sym (b .world)) (record { book = book-none; charges = charges-none; fair = tt });
+      given = subst (λ (x : PassNow). Recalls x (told g [])) (sym (b .pass)) (λ x. let y : _≡_ {A = ℕ} 0 1 = cc in absurd (omega arith));
+    }
+
+-- the empty state holds nothing, in any words
+pub empty-world : (e b k : List ℕ) (ys : List PeerRecord) (g : MempoolConfig) → worldOf e b k ys (empty g) ≡ nothing
+unfolding empty
+empty-world e b k ys g = rw (of-none entries e, no-boxes b, of-none rows k)
+
+pub empty-pass : (g : MempoolConfig) → passOf (empty g .pass) ≡ noPass
+unfolding empty
+empty-pass g = rw no-id
+
+-- the state that an accepted start of this very store handed back
+module _ (m : Moment) (g : MempoolConfig) (e : started (sizesAt m) g ≡ Ready (m .state)) where
+  met : Accepted (sizesAt m) g (m .state)
+  met = accepted-start (sizesAt m) g (m .state) e
+
+  start-fits : FitsAt (moment (m .entries) (m .boxes) (m .cache) (m .peers) (empty g))
   unfolding sized settled empty
   start-fits =
-      let p = goes-on (not (within (sizesAt m .entries) 4096)) _ (accepted .size) in
+      let p = goes-on (not (within (sizesAt m .entries) 4096)) _ (met .size) in
       let q = goes-on (not (within (sizesAt m .boxes) 65536)) _ (p .1) in
       let r = goes-on (not (within (sizesAt m .cache) 10000)) _ (q .1) in
-      let j = goes-on (leb (sizesAt m .entries) (g .capacity)) _ (accepted .fine) in
+      let j = goes-on (leb (sizesAt m .entries) (g .capacity)) _ (met .fine) in
       let k = goes-on (ltb (sizesAt m .cache) (g .«invalidation_capacity»)) _ (j .1) in
-      rw (accepted .state)
-      (fits-made (moment (m .entries) (m .boxes) (m .cache) (m .peers) (empty g))
+      fits-made (moment (m .entries) (m .boxes) (m .cache) (m .peers) (empty g))
       (record { pool = record { entries = entries-room (m .entries) 0 (omega arith); boxes = boxes-room (m .boxes) 0 (omega arith) }; cache = cache-room (m .cache) 0 (omega arith) })
       (fits-cache (g .«invalidation_capacity») _ (within-one _ _ (un-not _ (r .0))) (ltb-false _ _ (k .0)))
       (omega arith)
-      (omega (arith, eqb-true (length (m .peers)) 256 (r .1))))
+      (omega (arith, eqb-true (length (m .peers)) 256 (r .1)))
     where
       within-one : (n most : ℕ) → within n most ≡ true → 1 ≤ n
       within-one n most h = by (eqb n 0) refl h
@@ -147,20 +174,20 @@ module _ (m : Moment) (g : MempoolConfig) (e : Ready (m .state) ≡ started (siz
       fits-cache : (a b : ℕ) → 1 ≤ b → a ≤ b → max a 1 ≤ b
       fits-cache a b p q = omega arith
 
-  start-agrees : Agrees g m (told g [])
+  begun-empty : Begun g (moment (m .entries) (m .boxes) (m .cache) (m .peers) (empty g))
   unfolding empty
-  start-agrees =
+  begun-empty =
       record {
+        sizes = sizesAt m;
+        accepted = e ∙ ap Ready (met .state);
         fits = start-fits;
-        config = ap (λ (x : Mempool). x .config) (accepted .state);
-        world =
-            record {
-              book = rw (accepted .state, of-none entries (m .entries), no-boxes (m .boxes)) book-none;
-              charges = rw (accepted .state) charges-none;
-              fair = tt;
-            };
-        given = rw (accepted .state) (λ z. let y : _≡_ {A = ℕ} 0 1 = cc in absurd (omega arith));
+        config = refl;
+        world = empty-world (m .entries) (m .boxes) (m .cache) (m .peers) g;
+        pass = empty-pass g;
       }
+
+  pub start-begins : Begun g m
+  start-begins = subst (λ (x : Mempool). Begun g (moment (m .entries) (m .boxes) (m .cache) (m .peers) x)) (sym (met .state)) begun-empty
 
 -- ---- a list of calls
 
@@ -169,16 +196,24 @@ pub record Told (g : MempoolConfig) (h : List Heard) (m : Moment) : Type 0 where
   pub agrees : Agrees g m (told g h)
   pub limits : everySubmission (λ a ins outs r l k. FailsExactly g (a .source) r (l .charged)) g h
 
+pub told-begin : (g : MempoolConfig) (m : Moment) → Begun g m → 1 ≤ g .«cost_per_peer_per_block» → Told g [] m
+told-begin g m b one = record { bounds = bounds-of (b .sizes) g (accepted-start (b .sizes) g (empty g) (b .accepted) .fine) one; agrees = start-agrees m g b; limits = tt }
+
+module _ (g : MempoolConfig) {h : List Heard} {m n : Moment} (t : Told g h m) where
+  pub told-call : (c : Call) (o : Outcome) → Step c o m n → Told g (record { call = c; outcome = o } ∷ h) n
+  told-call c o x = record {
+    bounds = t .bounds;
+    agrees = step-agrees g (t .bounds) m n (told g h) o (t .agrees) c x;
+    limits = (step-limits g (t .bounds) m n (told g h) o (t .agrees) c x, t .limits);
+  }
+
+  -- what decodes alike
+  pub told-still : (o : Outcome) → Becomes m n o (still o (worldAt m) (passAt m)) → Told g h n
+  told-still o x = record { bounds = t .bounds; agrees = still-agrees g m n (told g h) o (t .agrees) x; limits = t .limits }
+
 pub run-told : (g : MempoolConfig) {h : List Heard} {m : Moment} → Run g h m → Told g h m
-run-told g (begin m e one) = record { bounds = bounds-of m g e one; agrees = start-agrees m g e; limits = tt }
-run-told g (call {h = h} {m = m} c o n r x) = go (run-told g r)
-  where
-    go : Told g h m → Told g (record { call = c; outcome = o } ∷ h) n
-    go t = record {
-      bounds = t .bounds;
-      agrees = step-agrees g (t .bounds) m n (told g h) o (t .agrees) c x;
-      limits = (step-limits g (t .bounds) m n (told g h) o (t .agrees) c x, t .limits);
-    }
+run-told g (begin m b one) = told-begin g m b one
+run-told g (call c o n r x) = told-call g (run-told g r) c o x
 
 -- ---- what the agreement says of pool and ledger
 
@@ -232,9 +267,8 @@ module _ (t : Tables) (b : Book) (s : SameBook t b) where
   named-by f h q (p ∷ ps) n = (pooled-same t b s (p .id) ∙ n .0, in-among (p .box) (f (p .id) (t .boxes)) (rw (q (p .id)) (n .1)), named-by f h q ps (n .2))
 
 -- Demand 3.
-pub demand3 : (g : MempoolConfig) (h : List Heard) (m : Moment) → Run g h m → Demand3 g h m
-demand3 g h m r =
-    let z = run-told g r in
+pub told-demand3 : (g : MempoolConfig) (h : List Heard) (m : Moment) → Told g h m → Demand3 g h m
+told-demand3 g h m z =
     let t : Tables = worldAt m .tables in
     let b : Book = told g h .book in
     let s : SameBook t b = z .agrees .world .book in
@@ -252,3 +286,6 @@ demand3 g h m r =
       charges = z .agrees .world .fair;
       refusals = z .limits;
     }
+
+pub demand3 : (g : MempoolConfig) (h : List Heard) (m : Moment) → Run g h m → Demand3 g h m
+demand3 g h m r = told-demand3 g h m (run-told g r)
