@@ -1,2 +1,4 @@
 pub mod Input
 pub mod Poolrun
+pub mod History
+pub mod Demand
