@@ -8,6 +8,7 @@ use Rattle.boxes.specs.Flat.{countOf, idsTo}
 use Rattle.forms.specs.Nums.{Prints}
 use Rattle.store.specs.World.{worldOf}
 use Rattle.store.specs.Fits.{Fits}
+use Rattle.peers.specs.Flat.{records}
 use Rattle.pool_types.specs.Outcomes.{Outcome}
 use Rattle.pool_types.specs.declared.Mempool.{Mempool}
 use Rattle.stats.specs.declared.FeeStats.{FeeStats}
@@ -18,7 +19,7 @@ use Rattle.console.specs.declared.Told.{Told}
 
 -- the words fit what is held
 pub record Holds (e b k p a : List ℕ) (h : Kept) : Type 0 where
-  pub fits : Fits e b k p (h .mempool)
+  pub fits : Fits e b k (records p) (h .mempool)
   pub written : h .written ≤ countOf 4 a
 
 -- what the answer of a call that writes ids is made of: the state m and the statistics s that are held then, the ids in the answer buffer, of which
@@ -36,7 +37,7 @@ pub record After (e b k p a o₀ o : List ℕ) (t : Told) (m : Line) : Type 0 wh
   pub ready : t .kept .ready ≡ m .ready
   pub config : t .kept .mempool .config ≡ m .config
   pub pass : passOf (t .kept .mempool .pass) ≡ m .pass
-  pub world : worldOf e b k p (t .kept .mempool) ≡ m .world
+  pub world : worldOf e b k (records p) (t .kept .mempool) ≡ m .world
   pub stats : t .kept .stats ≡ m .stats
   pub written : idsTo 4 a (t .kept .written) ≡ m .written
 

@@ -26,7 +26,7 @@ use Rattle.entries.specs.declared.fields.ValidationCost.the-variants.{Unmeasure
 use Rattle.boxes.specs.Layout.{boxesRoom}
 use Rattle.boxes.specs.Flat.{countOf, idsTo}
 use Rattle.expiring_cache.specs.Layout.{cacheRoom}
-use Rattle.peers.specs.Flat.{flatPeers}
+use Rattle.peers.specs.Flat.{flatPeers, records}
 use Rattle.stats.specs.Stats.{fresh}
 use Rattle.stats.specs.declared.FeeStats.{FeeStats}
 use Rattle.store.specs.World.{World, worldOf, Result}
@@ -356,7 +356,7 @@ module _ (e b k p a : List ℕ) (h : Kept) where
         ready = h .ready;
         config = h .mempool .config;
         pass = passOf (h .mempool .pass);
-        world = worldOf e b k p (h .mempool);
+        world = worldOf e b k (records p) (h .mempool);
         stats = h .stats;
         written = idsTo 4 a (h .written);
       }
@@ -369,7 +369,7 @@ module _ (e b k p a : List ℕ) (h : Kept) where
         ready = true;
         config = st .config;
         pass = passOf (st .pass);
-        world = worldOf e b k p st;
+        world = worldOf e b k (records p) st;
         stats = fresh 0;
         written = [];
       }
@@ -379,7 +379,7 @@ module _ (e b k p a : List ℕ) (h : Kept) where
         ready = h .ready;
         config = h .mempool .config;
         pass = passOf (h .mempool .pass);
-        world = worldOf e b k p (h .mempool);
+        world = worldOf e b k (records p) (h .mempool);
         stats = h .stats;
         written = [];
       }
@@ -438,14 +438,14 @@ module _ (e b k p a : List ℕ) (h : Kept) where
 
   -- a changing call, of a pool that is there; f and s are the words of the form's lists
   unfoldable pub altered : List ℕ → List ℕ → Change → Line
-  altered f s (Submit t) = processedLine (resultOf e b k p a (h .mempool) (submissionOf t) f s) (idOf (t .id))
+  altered f s (Submit t) = processedLine (resultOf e b k (records p) a (h .mempool) (submissionOf t) f s) (idOf (t .id))
   altered f s (Return g) =
-      doneLine (named wReturned (idOf (g .id))) (returned (entriesRoom e) (boxesRoom b) (h .mempool) (worldOf e b k p (h .mempool)) (unconfirmedOf g) f s)
-  altered f s (Block g) = appliedLine (blockResult e b k p a (h .mempool) (h .stats) (g .time) f s)
-  altered f s (Invalidate time x) = doneLine (named wInvalidated (idOf x)) (invalidated (h .mempool) (worldOf e b k p (h .mempool)) time (idOf x))
-  altered f s (Open time limit preheader) = passLine (opened (worldOf e b k p (h .mempool)) (passOf (h .mempool .pass)) time limit preheader)
-  altered f s Next = passLine (nexted (h .mempool .config) (worldOf e b k p (h .mempool)) (passOf (h .mempool .pass)))
-  altered f s (Answer n verdict) = passLine (answered (h .mempool .config) (worldOf e b k p (h .mempool)) (passOf (h .mempool .pass)) f (verdictOf verdict))
+      doneLine (named wReturned (idOf (g .id))) (returned (entriesRoom e) (boxesRoom b) (h .mempool) (worldOf e b k (records p) (h .mempool)) (unconfirmedOf g) f s)
+  altered f s (Block g) = appliedLine (blockResult e b k (records p) a (h .mempool) (h .stats) (g .time) f s)
+  altered f s (Invalidate time x) = doneLine (named wInvalidated (idOf x)) (invalidated (h .mempool) (worldOf e b k (records p) (h .mempool)) time (idOf x))
+  altered f s (Open time limit preheader) = passLine (opened (worldOf e b k (records p) (h .mempool)) (passOf (h .mempool .pass)) time limit preheader)
+  altered f s Next = passLine (nexted (h .mempool .config) (worldOf e b k (records p) (h .mempool)) (passOf (h .mempool .pass)))
+  altered f s (Answer n verdict) = passLine (answered (h .mempool .config) (worldOf e b k (records p) (h .mempool)) (passOf (h .mempool .pass)) f (verdictOf verdict))
 
   -- a query's text; `room`: the words of the buffer that lists go to; f: the words that were read, of which a rebroadcast's list has the first
   unfoldable pub asked : ℕ → List ℕ → Query → List ℕ
@@ -456,7 +456,7 @@ module _ (e b k p a : List ℕ) (h : Kept) where
   asked room f (Fee minutes size) = numberText wFee (recommended (h .stats) (h .mempool) minutes size)
   asked room f (Wait time fee size) = numberText wWait (expectedWait e (h .stats) (h .mempool) time fee size)
   asked room f (Histogram time bins longest) = histogramText (histogramOf e (h .mempool) room time bins longest)
-  asked room f (Rebroadcast n) = sentText (rebroadcast (h .mempool) (worldOf e b k p (h .mempool)) (room / 4) (take n f))
+  asked room f (Rebroadcast n) = sentText (rebroadcast (h .mempool) (worldOf e b k (records p) (h .mempool)) (room / 4) (take n f))
   asked room f Charges = chargesText (h .mempool .sums .«interblock_cost») (flatPeers p (h .mempool .sums .peers))
   asked room f Written = listed wIds (idsTo 4 a (h .written))
 

@@ -39,6 +39,7 @@ use Rattle.forms.specs.Nums.{Prints}
 use Rattle.stats.specs.Stats.{fresh}
 use Rattle.stats.specs.declared.FeeStats.{FeeStats}
 use Rattle.store.specs.Fits.{Fits, goes-on, un-not}
+use Rattle.peers.specs.Flat.{records, flats}
 use Rattle.process.specs.Post.{Post}
 use Rattle.process.specs.declared.Processed.{Processed}
 use Rattle.returns.specs.Post.{Meets}
@@ -182,7 +183,7 @@ module _ (a a' ks : List ℕ) (n : Outcome) (y : writtenIn n ≡ length ks) (d :
 
 -- ---- a submission's line
 
-module _ (e b k p a e' b' k' p' a' : List ℕ) (h : Kept) (r : Processed) (s : Result) (d : Post (h .mempool) r e' b' k' p' a a' s) (y : writtenIn (s .outcome) ≡ length (s .written))
+module _ (e b k p a e' b' k' p' a' : List ℕ) (h : Kept) (r : Processed) (s : Result) (d : Post (h .mempool) r e' b' k' (records p') a a' s) (y : writtenIn (s .outcome) ≡ length (s .written))
     (x : ℕ) (o₀ o : List ℕ) (t : Told) (w : ToldOf a' (r .mempool) (h .stats) (processedOf (r .outcome)) (txText (processedOf (r .outcome)) x) o₀ o t) where
   held-processed : idsTo 4 a' (t .kept .written) ≡ take (countOf 4 a) (s .written)
   held-processed = held a a' (s .written) (processedOf (r .outcome)) (ap writtenIn (d .outcome) ∙ y) (d .wrote) t w
@@ -221,7 +222,7 @@ says-applied st w s room time txs ins = go (eqb (blockRefusal st room txs ins) 0
     go false = refl
 
 -- each id that it wrote has its place, so all are held
-module _ (e b k p a e' b' k' a' : List ℕ) (h : Kept) (r : Applied) (s : BlockResult) (d : BlockPost (h .mempool) r e' b' k' p a a' s)
+module _ (e b k p a e' b' k' a' : List ℕ) (h : Kept) (r : Applied) (s : BlockResult) (d : BlockPost (h .mempool) r e' b' k' (records p) a a' s)
     (y : writtenIn (s .result .outcome) ≡ length (s .result .written)) (o₀ o : List ℕ) (t : Told) (w : ToldOf a' (r .mempool) (r .stats) (blockOf (r .outcome)) (removedText (blockOf (r .outcome))) o₀ o t) where
   held-removed : idsTo 4 a' (t .kept .written) ≡ s .result .written
   held-removed =
@@ -274,7 +275,7 @@ sent-cut st w room n m f q = ap (λ (x : List ℕ). sentText (rebroadcast st w r
 
 -- ---- the line of a call that writes no ids
 
-pub after-done : (e b k p a e' b' k' p' o₀ o : List ℕ) (h : Kept) (r : Mempool) (n : Outcome) (s : Result) (u : List ℕ) (len : ℕ) → Meets (h .mempool) r n e' b' k' p' s → Prints (orRefused u n) 0 o₀ o len
+pub after-done : (e b k p a e' b' k' p' o₀ o : List ℕ) (h : Kept) (r : Mempool) (n : Outcome) (s : Result) (u : List ℕ) (len : ℕ) → Meets (h .mempool) r n e' b' k' (records p') s → Prints (orRefused u n) 0 o₀ o len
     → After e' b' k' p' a o₀ o (record { kept = record { ready = true; mempool = r; stats = h .stats; written = 0 }; len = len }) (doneLine e b k p a h u s)
 unfolding doneLine
 after-done e b k p a e' b' k' p' o₀ o h r n s u len d t =
@@ -289,7 +290,7 @@ after-done e b k p a e' b' k' p' o₀ o h r n s u len d t =
       written = of-none (ids 4) a;
     }
 
-pub after-pass : (e b k p a e' b' k' p' o₀ o : List ℕ) (h : Kept) (r : Mempool) (n : Outcome) (s : PassResult) (len : ℕ) → PassPost (h .mempool) r n e' b' k' p' s → Prints (passText n) 0 o₀ o len
+pub after-pass : (e b k p a e' b' k' p' o₀ o : List ℕ) (h : Kept) (r : Mempool) (n : Outcome) (s : PassResult) (len : ℕ) → PassPost (h .mempool) r n e' b' k' (records p') s → Prints (passText n) 0 o₀ o len
     → After e' b' k' p' a o₀ o (record { kept = record { ready = true; mempool = r; stats = h .stats; written = 0 }; len = len }) (passLine e b k p a h s)
 unfolding passLine
 after-pass e b k p a e' b' k' p' o₀ o h r n s len d t =
@@ -310,13 +311,13 @@ after-pass e b k p a e' b' k' p' o₀ o h r n s len d t =
 fits-none : (e b : List ℕ) → fitsTest e b (record { pooled = 0; records = 0 }) ≡ true
 fits-none e b = rw (le-leb 0 (entriesRoom e) (omega arith)) (le-leb 0 (boxesRoom b) (omega arith))
 
-pub fits-new : (e b k p : List ℕ) (c : MempoolConfig) → max (c .«invalidation_capacity») 1 ≤ cacheRoom k → 512 ≤ length p → Fits e b k p (empty c)
+pub fits-new : (e b k p : List ℕ) (c : MempoolConfig) → max (c .«invalidation_capacity») 1 ≤ cacheRoom k → 512 ≤ length p → Fits e b k (records p) (empty c)
 unfolding empty
 fits-new e b k p c y z =
     record {
       tests = record { pool = fits-true e b _ (fits-none e b); cache = ok-room k 0 (omega arith) };
       keeps = y;
-      words = z;
+      records = omega (arith, z, flats .len p (length p / 2));
       used = omega arith;
     }
 
@@ -353,15 +354,15 @@ module _ (e b k p : List ℕ) (c : MempoolConfig) where
       let r = goes-on (ltb (cacheRoom k) (c .«invalidation_capacity»)) _ (q .1) in
       ltb-false _ _ (r .0)
 
-  fits-empty : sized sizesHere ≡ true → settles sizesHere c ≡ true → Fits e b k p (empty c)
+  fits-empty : sized sizesHere ≡ true → settles sizesHere c ≡ true → Fits e b k (records p) (empty c)
   fits-empty t u = let z = sized-needs t in let y = settled-needs u in fits-new e b k p c (omega (arith, z .0, y)) (z .1)
 
-  pub fits-started : (st : Mempool) → started sizesHere c ≡ Ready st → Fits e b k p st
+  pub fits-started : (st : Mempool) → started sizesHere c ≡ Ready st → Fits e b k (records p) st
   unfolding started
   fits-started st h = go (sized sizesHere) (settles sizesHere c) refl refl h
     where
-      go : (t u : Bool) → sized sizesHere ≡ t → settles sizesHere c ≡ u → pick t (pick u (Ready (empty c)) (NotStarted 6)) (NotStarted 6) ≡ Ready st → Fits e b k p st
-      go true true q r z = let y : empty c ≡ st = cc in subst (λ (s : Mempool). Fits e b k p s) y (fits-empty q r)
+      go : (t u : Bool) → sized sizesHere ≡ t → settles sizesHere c ≡ u → pick t (pick u (Ready (empty c)) (NotStarted 6)) (NotStarted 6) ≡ Ready st → Fits e b k (records p) st
+      go true true q r z = let y : empty c ≡ st = cc in subst (λ (s : Mempool). Fits e b k (records p) s) y (fits-empty q r)
       go true false q r z = let y : _≡_ {A = ℕ} 0 1 = cc in absurd (omega arith)
       go false u q r z = let y : _≡_ {A = ℕ} 0 1 = cc in absurd (omega arith)
 

@@ -3,7 +3,7 @@ use crate::Kept;
 use crate::Told;
 use crate::answer::refused;
 use crate::answer::smaller;
-use blocks::apply_block_at;
+use blocks::apply_block_by_value;
 use lines::read::BlockForm;
 use pool_types::BlockOutcome;
 use pool_types::Mempool;
@@ -85,7 +85,7 @@ pub fn on_block(
 {
     let mempool = kept.mempool;
     let stats = kept.stats;
-    let done = apply_block_at(
+    let done = apply_block_by_value(
         entries,
         boxes,
         cache,

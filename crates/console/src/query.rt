@@ -28,6 +28,7 @@ ghost use mathlib.Core.List.{List};
 ghost use lib.ListN.{length, take};
 ghost use Rattle.words.specs.Ids.{idOf};
 ghost use Rattle.forms.specs.Nums.{Prints};
+ghost use Rattle.peers.specs.Flat.{records};
 ghost use Rattle.pool.specs.Pool.{PoolFits};
 ghost use Rattle.store.specs.World.{worldOf};
 ghost use Rattle.cleanup.specs.Rebroadcast.{rebroadcast};
@@ -102,7 +103,7 @@ pub fn on_rebroadcast(
 ) -> usize
     requires { ⌜ PoolFits (now entries) (now boxes) (mempool .counts) ⌝ }
     requires { ⌜ (length (now listing) ≤ 1024) × (32768 ≤ length (now out)) ⌝ }
-    ensures { λ r. ⌜ ((k p : List ℕ) → Prints (sentText (rebroadcast mempool (worldOf (now (entries .entry)) (now (boxes .entry)) k p mempool) (length (now (listing .entry)) / 4) (take n (now (one .entry))))) 0 (now (out .entry)) (now (out .exit)) r) ⌝ }
+    ensures { λ r. ⌜ ((k p : List ℕ) → Prints (sentText (rebroadcast mempool (worldOf (now (entries .entry)) (now (boxes .entry)) k (records p) mempool) (length (now (listing .entry)) / 4) (take n (now (one .entry))))) 0 (now (out .entry)) (now (out .exit)) r) ⌝ }
 {
     let m = smaller(n, one.len());
     let sent = select_for_rebroadcast(entries, boxes, listing, mempool, &one[..m]);

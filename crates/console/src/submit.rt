@@ -10,7 +10,7 @@ use pool_types::Source;
 use pool_types::Submission;
 use pool_types::Verdict;
 use process::Processed;
-use process::process;
+use process::process_words;
 use replies::pieces::text;
 use replies::replaced;
 use replies::with_id;
@@ -137,7 +137,7 @@ pub fn on_tx(
     let stats = kept.stats;
     let id = t.id;
     let sub = submission_of(t);
-    let done = process(
+    let done = process_words(
         entries,
         boxes,
         cache,

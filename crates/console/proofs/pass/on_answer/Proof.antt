@@ -1,5 +1,6 @@
 use Rattle.console.specs.Console.{altered}
 use Rattle.console.specs.Laws.{after-pass}
+use Rattle.peers.specs.Flat.{records}
 use borrow.Author.Needs.{needs}
 use Rattle.console.proofs.pass.on_answer.Statement.{statement}
 use Rattle.console.proofs.pass.on_answer.Tie as tie
@@ -40,7 +41,7 @@ same-length-4 c = search needs
 -- src/pass.rt:104:1
 returns : tie.Need-returns
 unfolding altered
-returns c n p a s y = rw (← c .before .before .before .before .before .before .before .before .before .before .before .before .verdict-of .ensures) (after-pass _ _ _ _ _ _ _ _ _ _ _ _ _ _ _ _ (c .before .before .before .before .before .before .before .before .before .before .before .answer .ensures .0 p (y .fits)) (c .before .before .tell-answered .ensures))
+returns c n p a s y = rw (← c .before .before .before .before .before .before .before .before .before .before .before .before .verdict-of .ensures) (after-pass _ _ _ _ _ _ _ _ _ _ _ _ _ _ _ _ (c .before .before .before .before .before .before .before .before .before .before .before .answer .ensures .0 (records p) (y .fits)) (c .before .before .tell-answered .ensures))
 
 pub on-answer-spec : {M : Type 1} → statement M
 on-answer-spec =

@@ -3,6 +3,7 @@ use mathlib.Core.List.{[]}
 use mathlib.Core.Path.{_∙_}
 use Rattle.console.specs.Texts.{prints-as}
 use Rattle.console.specs.Laws.{cut-is, sent-placed, sent-ids, sent-not, sent-cut}
+use Rattle.peers.specs.Flat.{records}
 use borrow.Author.Needs.{needs}
 use Rattle.console.proofs.query.on_rebroadcast.Statement.{statement}
 use Rattle.console.proofs.query.on_rebroadcast.Tie as tie
@@ -44,7 +45,7 @@ same-length-2 : tie.Need-same-length-2
 same-length-2 c = search needs
 
 returns : tie.Need-returns
-returns c k p = prints-as (sent-ids _ _ _ (c .before .before .before .before .before .before .before .before .before .before .before .select-for-rebroadcast .ensures .0 k p (c .before .before .before .before .before .before .before .before .before .before .before .before .before .before .before .before .before .before .before .before .pre .0)) (c .before .before .before .before .before .before .before .sent .given .1) ∙ sent-cut _ _ _ _ _ _ (c .before .before .before .before .before .before .before .before .before .before .before .before .before .before .smaller .ensures)) (c .before .before .with-ids .ensures)
+returns c k p = prints-as (sent-ids _ _ _ (c .before .before .before .before .before .before .before .before .before .before .before .select-for-rebroadcast .ensures .0 k (records p) (c .before .before .before .before .before .before .before .before .before .before .before .before .before .before .before .before .before .before .before .before .pre .0)) (c .before .before .before .before .before .before .before .sent .given .1) ∙ sent-cut _ _ _ _ _ _ (c .before .before .before .before .before .before .before .before .before .before .before .before .before .before .smaller .ensures)) (c .before .before .with-ids .ensures)
 
 same-length-3 : tie.Need-same-length-3
 same-length-3 c = search needs
@@ -53,7 +54,7 @@ same-length-4 : tie.Need-same-length-4
 same-length-4 c = search needs
 
 returns-2 : tie.Need-returns-2
-returns-2 c k p = prints-as (sent-not _ _ _ (c .before .before .before .before .before .before .before .before .before .select-for-rebroadcast .ensures .0 k p (c .before .before .before .before .before .before .before .before .before .before .before .before .before .before .before .before .before .before .pre .0)) (c .before .before .before .before .before .sent2 .given .1) ∙ sent-cut _ _ _ _ _ _ (c .before .before .before .before .before .before .before .before .before .before .before .before .smaller .ensures)) (c .before .before .refused .ensures)
+returns-2 c k p = prints-as (sent-not _ _ _ (c .before .before .before .before .before .before .before .before .before .select-for-rebroadcast .ensures .0 k (records p) (c .before .before .before .before .before .before .before .before .before .before .before .before .before .before .before .before .before .before .pre .0)) (c .before .before .before .before .before .sent2 .given .1) ∙ sent-cut _ _ _ _ _ _ (c .before .before .before .before .before .before .before .before .before .before .before .before .smaller .ensures)) (c .before .before .refused .ensures)
 
 pub on-rebroadcast-spec : {M : Type 1} → statement M
 on-rebroadcast-spec =

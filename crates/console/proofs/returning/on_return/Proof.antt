@@ -1,5 +1,6 @@
 use Rattle.console.specs.Console.{altered}
 use Rattle.console.specs.Laws.{after-done}
+use Rattle.peers.specs.Flat.{records}
 use borrow.Author.Needs.{needs}
 use Rattle.console.proofs.returning.on_return.Statement.{statement}
 use Rattle.console.proofs.returning.on_return.Tie as tie
@@ -36,7 +37,7 @@ same-length-3 c = search needs
 -- src/returning.rt:64:1
 returns : tie.Need-returns
 unfolding altered
-returns c k p a y = rw (← c .before .before .before .before .before .before .before .before .before .before .before .before .unconfirmed-of .ensures) (after-done _ _ _ _ _ _ _ _ _ _ _ _ _ _ _ _ _ (c .before .before .before .before .before .before .before .before .before .return-to-pool .ensures .0 k p (y .fits)) (c .before .before .tell-returned .ensures))
+returns c k p a y = rw (← c .before .before .before .before .before .before .before .before .before .before .before .before .unconfirmed-of .ensures) (after-done _ _ _ _ _ _ _ _ _ _ _ _ _ _ _ _ _ (c .before .before .before .before .before .before .before .before .before .return-to-pool .ensures .0 k (records p) (y .fits)) (c .before .before .tell-returned .ensures))
 
 pub on-return-spec : {M : Type 1} → statement M
 on-return-spec =

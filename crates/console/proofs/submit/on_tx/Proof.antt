@@ -8,19 +8,18 @@ use Rattle.console.proofs.submit.on_tx.Reads as reads
 use Rattle.console.proofs.submit.on_tx.Lts as lts
 use Rattle.console.proofs.submit.submission_of.Reads as submission-of-reads
 use Rattle.console.proofs.submit.told.Reads as told-reads
-use Rattle.process.proofs.process.Reads as process-reads
 
 -- src/submit.rt:139:9
 submission-of-requires : tie.Need-submission-of-requires
 submission-of-requires c κs = search needs
 
 -- src/submit.rt:140:9
-process-requires : tie.Need-process-requires
-process-requires c κs = search needs
+process-words-requires : tie.Need-process-words-requires
+process-words-requires c κs = search needs
 
 -- src/submit.rt:151:5
 told-requires : tie.Need-told-requires
-told-requires c κs = (omega (arith, c .before .before .before .before .before .before .before .before .before .before .before .before .process .kept, c .before .before .before .before .before .before .before .before .before .before .before .before .before .before .before .before .before .before .before .before .before .before .before .before .before .before .before .before .before .before .pre), omega (arith, c .before .before .before .before .before .before .before .before .before .before .before .before .before .before .before .before .before .before .before .before .before .before .before .before .before .before .before .before .before .before .pre))
+told-requires c κs = (omega (arith, c .before .before .before .before .before .before .before .before .before .before .before .before .process-words .kept, c .before .before .before .before .before .before .before .before .before .before .before .before .before .before .before .before .before .before .before .before .before .before .before .before .before .before .before .before .before .before .pre), omega (arith, c .before .before .before .before .before .before .before .before .before .before .before .before .before .before .before .before .before .before .before .before .before .before .before .before .before .before .before .before .before .before .pre))
 
 -- src/submit.rt:119:1
 same-length : tie.Need-same-length
@@ -49,14 +48,14 @@ same-length-6 c = search needs
 -- src/submit.rt:119:1
 returns : tie.Need-returns
 unfolding altered
-returns c = rw (← c .before .before .before .before .before .before .before .before .before .before .before .before .before .before .before .before .before .before .before .before .before .submission-of .ensures) (after-processed _ _ _ _ _ _ _ _ _ _ _ _ _ (c .before .before .before .before .before .before .before .before .before .before .before .before .before .before .before .process .ensures .0 (c .before .before .before .before .before .before .before .before .before .before .before .before .before .before .before .before .before .before .before .before .before .before .before .before .before .before .before .before .before .before .before .before .before .pre .0 .fits)) (says-processed _ _ _ _ _ _ _) _ _ _ _ (c .before .before .told .ensures))
+returns c = rw (← c .before .before .before .before .before .before .before .before .before .before .before .before .before .before .before .before .before .before .before .before .before .submission-of .ensures) (after-processed _ _ _ _ _ _ _ _ _ _ _ _ _ (c .before .before .before .before .before .before .before .before .before .before .before .before .before .before .before .process-words .ensures .0 (c .before .before .before .before .before .before .before .before .before .before .before .before .before .before .before .before .before .before .before .before .before .before .before .before .before .before .before .before .before .before .before .before .before .pre .0 .fits)) (says-processed _ _ _ _ _ _ _) _ _ _ _ (c .before .before .told .ensures))
 
 pub on-tx-spec : {M : Type 1} → statement M
 on-tx-spec =
     tie.close
     (tie.spec
     submission-of-requires
-    process-requires
+    process-words-requires
     told-requires
     same-length
     same-length-2
