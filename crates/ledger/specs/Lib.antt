@@ -24,3 +24,5 @@ pub mod AgreesCalls
 pub mod AgreesPasses
 pub mod Theorem
 pub mod Witness
+pub mod WitnessStore
+pub mod WitnessRun
