@@ -15,7 +15,7 @@ use Rattle.pool_types.specs.declared.Source.{Source}
 use Rattle.pool_types.specs.declared.Source.the-variants.{Local, Peer}
 use Rattle.pool_types.specs.declared.Verdict.{Verdict}
 use Rattle.pool_types.specs.declared.Verdict.the-variants.{Valid, Invalid, Absent}
-use Rattle.arguments.specs.Arguments.{records, feeOf, heightKey, aheadOf}
+use Rattle.arguments.specs.Arguments.{records, feeOf, heightKey, aheadOf, maxInputs}
 use Rattle.expiring_cache.specs.Cache.{Held, held}
 use Rattle.entries.specs.Entries.{Entry, pooled}
 use Rattle.peers.specs.declared.Standing.{Standing}
@@ -82,7 +82,7 @@ unfolding stateRefusal
 held-first st rows es at a h p = yes _ _ _ h
 
 -- 5,000 inputs pass and 5,001 do not, whatever they are
-inputs-pass : (E R : ℕ) (t : Tables) (a : Submission) (ins outs : List ℕ) → records 5 ins ≡ 5000 → listRefusal 5000 E R t a ins outs ≡ 7 → ⊥
+inputs-pass : (E R : ℕ) (t : Tables) (a : Submission) (ins outs : List ℕ) → records 5 ins ≡ 5000 → listRefusal maxInputs E R t a ins outs ≡ 7 → ⊥
 unfolding listRefusal
 inputs-pass E R t a ins outs e h =
     other-number
@@ -97,7 +97,7 @@ inputs-pass E R t a ins outs e h =
     other-number false false true q = omega arith
     other-number false false false q = omega arith
 
-inputs-stop : (E R : ℕ) (t : Tables) (a : Submission) (ins outs : List ℕ) → records 5 ins ≡ 5001 → listRefusal 5000 E R t a ins outs ≡ 7
+inputs-stop : (E R : ℕ) (t : Tables) (a : Submission) (ins outs : List ℕ) → records 5 ins ≡ 5001 → listRefusal maxInputs E R t a ins outs ≡ 7
 unfolding listRefusal
 inputs-stop E R t a ins outs e = yes _ _ _ (ap (ltb 5000) e)
 
@@ -112,20 +112,20 @@ abbrev empty : Tables
 empty = record { entries = []; boxes = [] }
 
 -- heights against the preheader 50: 2^31 is not ahead; room for one entry and two records is needed; a confirmed input is found
-list-edges : (listRefusal 5000 1 2 empty (sub 0 Local Absent) (spend 1) (make 2147483648) ≡ 0)
-    × (listRefusal 5000 1 2 empty (sub 0 Local Absent) (spend 1) (make 50) ≡ 0)
-    × (listRefusal 5000 1 2 empty (sub 0 Local Absent) (spend 1) (make 51) ≡ 8)
-    × (listRefusal 5000 1 2 empty (sub 0 Local Absent) (spend 0) (make 51) ≡ 28)
-    × (listRefusal 5000 1 1 empty (sub 0 Local Absent) (spend 0) (make 51) ≡ 27)
-    × (listRefusal 5000 0 2 empty (sub 0 Local Absent) (spend 0) (make 51) ≡ 27)
+list-edges : (listRefusal maxInputs 1 2 empty (sub 0 Local Absent) (spend 1) (make 2147483648) ≡ 0)
+    × (listRefusal maxInputs 1 2 empty (sub 0 Local Absent) (spend 1) (make 50) ≡ 0)
+    × (listRefusal maxInputs 1 2 empty (sub 0 Local Absent) (spend 1) (make 51) ≡ 8)
+    × (listRefusal maxInputs 1 2 empty (sub 0 Local Absent) (spend 0) (make 51) ≡ 28)
+    × (listRefusal maxInputs 1 1 empty (sub 0 Local Absent) (spend 0) (make 51) ≡ 27)
+    × (listRefusal maxInputs 0 2 empty (sub 0 Local Absent) (spend 0) (make 51) ≡ 27)
     × (listRefusal 0 0 2 empty (sub 0 Local Absent) (spend 0) (make 51) ≡ 7)
 unfolding listRefusal heightKey inputsTo inputAt resolvedBy
 list-edges = (refl, refl, refl, refl, refl, refl, refl)
 
 -- 26 comes before 27, and 5 before 26
-order-edges : (refusalOf 5000 0 0 (pool false 6 1 256) 4 empty [] Free (sub 0 (Peer 7) Absent) [] [] ≡ 26)
-    × (refusalOf 5000 0 0 (pool false 6 1 256) 4 empty [] Free (sub 0 Local Absent) [] [] ≡ 27)
-    × (refusalOf 5000 0 0 (pool false 6 1 256) 4 empty [] Free (sub 0 (Peer 7) (Valid 4294967296)) [] [] ≡ 5)
-    × (refusalOf 5000 1 0 (pool false 6 1 256) 4 empty [] (Has 0 0) (sub 0 (Peer 7) Invalid) [] [] ≡ 0)
+order-edges : (refusalOf maxInputs 0 0 (pool false 6 1 256) 4 empty [] Free (sub 0 (Peer 7) Absent) [] [] ≡ 26)
+    × (refusalOf maxInputs 0 0 (pool false 6 1 256) 4 empty [] Free (sub 0 Local Absent) [] [] ≡ 27)
+    × (refusalOf maxInputs 0 0 (pool false 6 1 256) 4 empty [] Free (sub 0 (Peer 7) (Valid 4294967296)) [] [] ≡ 5)
+    × (refusalOf maxInputs 1 0 (pool false 6 1 256) 4 empty [] (Has 0 0) (sub 0 (Peer 7) Invalid) [] [] ≡ 0)
 unfolding refusalOf callRefusal stateRefusal peerRefusal listRefusal feeOf heightKey inputsTo
 order-edges = (refl, refl, refl, refl)

@@ -20,7 +20,7 @@ ghost use mathlib.Core.Bool.{_&&_};
 ghost use Prim.Native.Nat.{_+_};
 ghost use lib.Dec.{ltb};
 ghost use Rattle.words.specs.Sums.{cap};
-ghost use Rattle.arguments.specs.Arguments.{whole, records, feeOf, heightKey, aheadOf};
+ghost use Rattle.arguments.specs.Arguments.{whole, records, maxInputs, feeOf, heightKey, aheadOf};
 ghost use Rattle.expiring_cache.specs.Layout.{CacheOk, cacheOf};
 ghost use Rattle.entries.specs.Layout.{EntriesOk, entriesOf, entriesRoom};
 ghost use Rattle.boxes.specs.Layout.{boxesRoom};
@@ -71,7 +71,7 @@ fn is_dear(verdict: Verdict) -> bool
 }
 
 // Refusals 20, 1, 2, 3, 4, 5, where the answer has room for so many ids.
-pub fn check_call(
+fn check_call(
     mempool: Mempool,
     room: usize,
     sub: Submission,
@@ -130,7 +130,7 @@ fn check_peer(mempool: Mempool, standing: Standing) -> u64
 }
 
 // Refusals 22, 23, 24, 25, 26. The standing of a local submission is not looked at.
-pub fn check_state(
+fn check_state(
     entries: &[u64],
     cache: &[u64],
     mempool: Mempool,
@@ -185,7 +185,7 @@ fn lacks_room(
 }
 
 // Refusals 7, 27, 28, 8.
-pub fn check_lists(
+fn check_lists(
     entries: &[u64],
     boxes: &[u64],
     mempool: Mempool,
@@ -194,7 +194,7 @@ pub fn check_lists(
     outputs: &[u64],
 ) -> u64
     requires { ⌜ PoolFits (now entries) (now boxes) (mempool .counts) ⌝ }
-    ensures { λ r. ⌜ r ≡ listRefusal 5000 (entriesRoom (now (entries .entry))) (boxesRoom (now (boxes .entry))) (tablesOf (now (entries .entry)) (now (boxes .entry)) (mempool .counts)) sub (now (inputs .entry)) (now (outputs .entry)) ⌝ }
+    ensures { λ r. ⌜ r ≡ listRefusal maxInputs (entriesRoom (now (entries .entry))) (boxesRoom (now (boxes .entry))) (tablesOf (now (entries .entry)) (now (boxes .entry)) (mempool .counts)) sub (now (inputs .entry)) (now (outputs .entry)) ⌝ }
 {
     if MAX_TX_INPUTS < count_records(inputs, 5) {
         return 7;
@@ -227,7 +227,7 @@ pub fn check(
     outputs: &[u64],
 ) -> u64
     requires { ⌜ Testable (now entries) (now boxes) (now cache) mempool ⌝ }
-    ensures { λ r. ⌜ r ≡ refusalOf 5000 (entriesRoom (now (entries .entry))) (boxesRoom (now (boxes .entry))) mempool room (tablesOf (now (entries .entry)) (now (boxes .entry)) (mempool .counts)) (cacheOf (now (cache .entry)) (mempool .cached)) standing sub (now (inputs .entry)) (now (outputs .entry)) ⌝ }
+    ensures { λ r. ⌜ r ≡ refusalOf maxInputs (entriesRoom (now (entries .entry))) (boxesRoom (now (boxes .entry))) mempool room (tablesOf (now (entries .entry)) (now (boxes .entry)) (mempool .counts)) (cacheOf (now (cache .entry)) (mempool .cached)) standing sub (now (inputs .entry)) (now (outputs .entry)) ⌝ }
 {
     let call = check_call(mempool, room, sub, inputs, outputs);
     if call != 0 {
