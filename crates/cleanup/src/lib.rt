@@ -35,6 +35,8 @@ ghost use lib.ListN.{length};
 ghost use Rattle.words.specs.Lists.{pick};
 ghost use Rattle.words.specs.Find.{found};
 ghost use Rattle.words.specs.Ids.{idOf};
+ghost use Rattle.pool_types.specs.declared.NextOutcome.the-variants.{NoPass};
+ghost use Rattle.pool_types.specs.declared.AnswerOutcome.the-variants.{NotAnswered};
 ghost use Rattle.pool_types.specs.Outcomes.{refused, openedOf, nextOf, answeredOf};
 ghost use Rattle.arguments.specs.Arguments.{aheadOf};
 ghost use Rattle.expiring_cache.specs.Layout.{cacheRoom};
@@ -221,6 +223,16 @@ fn end_pass(mempool: Mempool) -> Offered
     }
 }
 
+// A refusal, and the state as it was.
+fn not_offered(mempool: Mempool, code: u64) -> Offered
+    ensures { λ r. ⌜ r ≡ record { mempool = mempool; outcome = NoPass code } ⌝ }
+{
+    Offered {
+        mempool,
+        outcome: NextOutcome::NoPass(code),
+    }
+}
+
 // The next candidate, or the one that waits for its answer; or that the pass has ended. On words and counts that no start and calls left it is
 // safe, and answers with a number of this call.
 pub fn next(entries: &[u64], mempool: Mempool) -> Offered
@@ -233,17 +245,11 @@ pub fn next(entries: &[u64], mempool: Mempool) -> Offered
 {
     let pass = mempool.pass;
     if !pass.open {
-        return Offered {
-            mempool,
-            outcome: NextOutcome::NoPass(21),
-        };
+        return not_offered(mempool, 21);
     }
     let n = mempool.counts.pooled;
     if entries_room(entries) < n {
-        return Offered {
-            mempool,
-            outcome: NextOutcome::NoPass(1),
-        };
+        return not_offered(mempool, 1);
     }
     if pass.out {
         let id = pass.candidate;
@@ -408,6 +414,16 @@ fn weigh(
     }
 }
 
+// A refusal, and the state as it was.
+fn not_answered(mempool: Mempool, code: u64) -> Answered
+    ensures { λ r. ⌜ r ≡ record { mempool = mempool; outcome = NotAnswered code } ⌝ }
+{
+    Answered {
+        mempool,
+        outcome: AnswerOutcome::NotAnswered(code),
+    }
+}
+
 // What is known of the candidate: one flag 'confirmed' for each of its inputs, in order, and the verdict. Safe as `next` is.
 pub fn answer(
     entries: &mut [u64],
@@ -426,17 +442,11 @@ pub fn answer(
 {
     let pass = mempool.pass;
     if !fits_cache(entries, boxes, cache, mempool) {
-        return Answered {
-            mempool,
-            outcome: AnswerOutcome::NotAnswered(unfit(none_out(pass))),
-        };
+        return not_answered(mempool, unfit(none_out(pass)));
     }
     let code = check_answer(boxes, mempool, flags);
     if code != 0 {
-        return Answered {
-            mempool,
-            outcome: AnswerOutcome::NotAnswered(code),
-        };
+        return not_answered(mempool, code);
     }
     let id = pass.candidate;
     if !answer_resolved(boxes, mempool.counts.records, id, flags) {

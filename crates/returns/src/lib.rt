@@ -25,6 +25,8 @@ ghost use mathlib.Core.List.{List};
 ghost use Prim.Native.Nat.{ℕ, _+_, _≤_, max};
 ghost use Rattle.words.specs.Lists.{pick};
 ghost use Rattle.words.specs.Ids.{idOf};
+ghost use Rattle.pool_types.specs.declared.ReturnOutcome.the-variants.{NotReturned};
+ghost use Rattle.pool_types.specs.declared.InvalidateOutcome.the-variants.{NotInvalidated};
 ghost use Rattle.pool_types.specs.Outcomes.{refused, returnedOf, invalidatedOf};
 ghost use Rattle.arguments.specs.Arguments.{whole, records};
 ghost use Rattle.expiring_cache.specs.Layout.{CacheOk, cacheRoom};
@@ -186,6 +188,16 @@ fn enter(
     Mempool { counts, ..mempool }
 }
 
+// A refusal, and the state as it was.
+fn not_returned(mempool: Mempool, code: u64) -> Returned
+    ensures { λ r. ⌜ r ≡ record { mempool = mempool; outcome = NotReturned code } ⌝ }
+{
+    Returned {
+        mempool,
+        outcome: ReturnOutcome::NotReturned(code),
+    }
+}
+
 // Gives a transaction back to the pool, without a verdict. On words and counts that no start and calls left it is safe, and answers with a
 // number of this call.
 pub fn return_to_pool(
@@ -205,17 +217,11 @@ pub fn return_to_pool(
 {
     let counts = mempool.counts;
     if !fits(entries, boxes, counts) {
-        return Returned {
-            mempool,
-            outcome: ReturnOutcome::NotReturned(unfit(mempool.pass.open)),
-        };
+        return not_returned(mempool, unfit(mempool.pass.open));
     }
     let code = check_return(entries, boxes, mempool, tx, inputs, outputs);
     if code != 0 {
-        return Returned {
-            mempool,
-            outcome: ReturnOutcome::NotReturned(code),
-        };
+        return not_returned(mempool, code);
     }
     let config = mempool.config;
     let e = returned_entry(config, tx, inputs, outputs);
@@ -254,6 +260,16 @@ pub fn remember(cache: &mut [u64], mempool: Mempool, time: u64, id: Id) -> Mempo
     Mempool { cached, ..mempool }
 }
 
+// A refusal, and the state as it was.
+fn not_invalidated(mempool: Mempool, code: u64) -> Invalidated
+    ensures { λ r. ⌜ r ≡ record { mempool = mempool; outcome = NotInvalidated code } ⌝ }
+{
+    Invalidated {
+        mempool,
+        outcome: InvalidateOutcome::NotInvalidated(code),
+    }
+}
+
 // Takes a transaction out of the pool, where it is there, and remembers its id as invalid. Safe as `return_to_pool` is.
 pub fn invalidate(
     entries: &mut [u64],
@@ -271,16 +287,10 @@ pub fn invalidate(
     ensures { λ r. ⌜ (cacheFits (now (entries .entry)) (now (boxes .entry)) (now (cache .entry)) mempool ≡ false → invalidatedOf (r .outcome) ≡ refused (pick (mempool .pass .open) 20 1) 0) ⌝ }
 {
     if !fits_cache(entries, boxes, cache, mempool) {
-        return Invalidated {
-            mempool,
-            outcome: InvalidateOutcome::NotInvalidated(unfit(mempool.pass.open)),
-        };
+        return not_invalidated(mempool, unfit(mempool.pass.open));
     }
     if mempool.pass.open {
-        return Invalidated {
-            mempool,
-            outcome: InvalidateOutcome::NotInvalidated(20),
-        };
+        return not_invalidated(mempool, 20);
     }
     let without = take_out(entries, boxes, mempool, id);
     let after = remember(cache, without, time, id);

@@ -18,6 +18,9 @@ none-out-requires c κs = search needs
 unfit-requires : tie.Need-unfit-requires
 unfit-requires c κs = search needs
 
+not-answered-requires : tie.Need-not-answered-requires
+not-answered-requires c κs = search needs
+
 same-length : tie.Need-same-length
 same-length c = search needs
 
@@ -29,16 +32,20 @@ same-length-3 c = search needs
 
 returns : tie.Need-returns
 unfolding answeredOf
-returns c = (
-  λ ys f. not-met (c .before .before .before .fits-cache .ensures) (c .before .before .if1 .taken) (cache-holds _ _ _ _ ys f),
-  (
-    answer-unfit (c .before .none-out .result) (c .unfit .ensures),
-    (λ ys a. spares-same _ _, λ _. ap (λ n. refused n 0) (unfit-by (c .before .none-out .result) (c .unfit .ensures) (c .before .none-out .ensures))),
-  ),
-)
+returns c =
+    rw (c .not-answered .ensures) (
+      λ ys f. not-met (c .before .before .before .before .fits-cache .ensures) (c .before .before .before .if1 .taken) (cache-holds _ _ _ _ ys f),
+      (
+        answer-unfit (c .before .before .none-out .result) (c .before .unfit .ensures),
+        (λ ys a. spares-same _ _, λ _. ap (λ n. refused n 0) (unfit-by (c .before .before .none-out .result) (c .before .unfit .ensures) (c .before .before .none-out .ensures))),
+      ),
+    )
 
 check-answer-requires : tie.Need-check-answer-requires
 check-answer-requires c κs = cache-fits _ _ _ _ (met (c .before .before .fits-cache .ensures) (c .before .if1 .left)) .0 .pool .boxes
+
+not-answered-requires-2 : tie.Need-not-answered-requires-2
+not-answered-requires-2 c κs = search needs
 
 same-length-4 : tie.Need-same-length-4
 same-length-4 c = search needs
@@ -50,13 +57,14 @@ same-length-6 : tie.Need-same-length-6
 same-length-6 c = search needs
 
 returns-2 : tie.Need-returns-2
-returns-2 c = (
-  answer-stopped _ _ _ _ _ _ (c .before .check-answer .ensures) (c .if2 .taken),
-  (
-    answer-numbered _ _ _ (c .before .check-answer .ensures) (c .if2 .taken),
-    (λ ys a. spares-same _ _, was-met (c .before .before .before .before .fits-cache .ensures) (c .before .before .before .if1 .left)),
-  ),
-)
+returns-2 c =
+    rw (c .not-answered2 .ensures) (
+      answer-stopped _ _ _ _ _ _ (c .before .before .check-answer .ensures) (c .before .if2 .taken),
+      (
+        answer-numbered _ _ _ (c .before .before .check-answer .ensures) (c .before .if2 .taken),
+        (λ ys a. spares-same _ _, was-met (c .before .before .before .before .before .fits-cache .ensures) (c .before .before .before .before .if1 .left)),
+      ),
+    )
 
 answer-resolved-requires : tie.Need-answer-resolved-requires
 answer-resolved-requires c κs = (cache-fits _ _ _ _ (met (c .before .before .before .before .before .before .fits-cache .ensures) (c .before .before .before .before .before .if1 .left)) .0 .pool .boxes, answer-flags _ _ _ (c .before .before .before .check-answer .ensures) (c .before .before .if2 .left))
@@ -117,11 +125,13 @@ answer-spec =
     fits-cache-requires
     none-out-requires
     unfit-requires
+    not-answered-requires
     same-length
     same-length-2
     same-length-3
     returns
     check-answer-requires
+    not-answered-requires-2
     same-length-4
     same-length-5
     same-length-6

@@ -10,16 +10,26 @@ use Rattle.cleanup.specs.Laws.{only-state, spares-offered, spares-closed
 use Rattle.cleanup.proofs.next.Statement.{statement}
 use Rattle.cleanup.proofs.next.Tie as tie
 
+not-offered-requires : tie.Need-not-offered-requires
+not-offered-requires c κs = search needs
+
 returns : tie.Need-returns
 unfolding ofNext nextOf
-returns c = (next-closed _ (c .if1 .taken) _, (refl, (λ b k ys a. spares-same _ _, (λ _. rw (c .if1 .taken), refl))))
+returns c =
+    rw (c .not-offered .ensures)
+    (next-closed _ (c .before .if1 .taken) _, (refl, (λ b k ys a. spares-same _ _, (λ _. rw (c .before .if1 .taken), refl))))
 
 entries-room-requires : tie.Need-entries-room-requires
 entries-room-requires c κs = search needs
 
+not-offered-requires-2 : tie.Need-not-offered-requires-2
+not-offered-requires-2 c κs = search needs
+
 returns-2 : tie.Need-returns-2
 unfolding ofNext nextOf
-returns-2 c = (λ b k ys f. next-unfit _ _ b k ys (omega arith) f, (refl, (λ b k ys a. spares-same _ _, (λ _. rw (c .before .before .if1 .left), refl))))
+returns-2 c =
+    rw (c .not-offered2 .ensures)
+    (λ b k ys f. next-unfit _ _ b k ys (omega arith) f, (refl, (λ b k ys a. spares-same _ _, (λ _. rw (c .before .before .before .if1 .left), refl))))
 
 returns-3 : tie.Need-returns-3
 unfolding ofNext nextOf
@@ -86,8 +96,10 @@ pub next-spec : {M : Type 1} → statement M
 next-spec =
     tie.close
     (tie.spec
+    not-offered-requires
     returns
     entries-room-requires
+    not-offered-requires-2
     returns-2
     returns-3
     first-due-requires

@@ -16,6 +16,9 @@ fits-cache-requires c κs = search needs
 unfit-requires : tie.Need-unfit-requires
 unfit-requires c κs = search needs
 
+not-invalidated-requires : tie.Need-not-invalidated-requires
+not-invalidated-requires c κs = search needs
+
 same-length : tie.Need-same-length
 same-length c = refl
 
@@ -27,13 +30,17 @@ same-length-3 c = refl
 
 returns : tie.Need-returns
 unfolding invalidatedOf
-returns c = (
-  λ ys f. not-met (c .before .before .fits-cache .ensures) (c .before .if1 .taken) (cache-holds _ _ _ _ ys f),
-  (
-    invalidation-unfit (c .before .before .before .before .before .before .before .before .before .args .mempool .pass .open) (c .unfit .ensures),
-    (λ ys a. spares-same _ _, λ _. ap (λ n. refused n 0) (c .unfit .ensures)),
-  ),
-)
+returns c =
+    rw (c .not-invalidated .ensures) (
+      λ ys f. not-met (c .before .before .before .fits-cache .ensures) (c .before .before .if1 .taken) (cache-holds _ _ _ _ ys f),
+      (
+        invalidation-unfit (c .before .before .before .before .before .before .before .before .before .before .args .mempool .pass .open) (c .before .unfit .ensures),
+        (λ ys a. spares-same _ _, λ _. ap (λ n. refused n 0) (c .before .unfit .ensures)),
+      ),
+    )
+
+not-invalidated-requires-2 : tie.Need-not-invalidated-requires-2
+not-invalidated-requires-2 c κs = search needs
 
 same-length-4 : tie.Need-same-length-4
 same-length-4 c = refl
@@ -46,13 +53,14 @@ same-length-6 c = refl
 
 returns-2 : tie.Need-returns-2
 unfolding ofInvalidation
-returns-2 c = (
-  invalidate-stopped _ _ _ _ _ _ (c .if2 .taken),
-  (
-    refl,
-    (λ ys a. spares-same _ _, was-met (c .before .before .fits-cache .ensures) (c .before .if1 .left)),
-  ),
-)
+returns-2 c =
+    rw (c .not-invalidated2 .ensures) (
+      invalidate-stopped _ _ _ _ _ _ (c .before .if2 .taken),
+      (
+        refl,
+        (λ ys a. spares-same _ _, was-met (c .before .before .before .fits-cache .ensures) (c .before .before .if1 .left)),
+      ),
+    )
 
 take-out-requires : tie.Need-take-out-requires
 take-out-requires c κs = cache-fits _ _ _ _ (met (c .before .before .before .before .fits-cache .ensures) (c .before .before .before .if1 .left)) .0 .pool
@@ -85,4 +93,4 @@ returns-3 c = (
 )
 
 pub invalidate-spec : {M : Type 1} → statement M
-invalidate-spec = tie.close (tie.spec fits-cache-requires unfit-requires same-length same-length-2 same-length-3 returns same-length-4 same-length-5 same-length-6 returns-2 take-out-requires remember-requires same-length-7 same-length-8 same-length-9 returns-3)
+invalidate-spec = tie.close (tie.spec fits-cache-requires unfit-requires not-invalidated-requires same-length same-length-2 same-length-3 returns not-invalidated-requires-2 same-length-4 same-length-5 same-length-6 returns-2 take-out-requires remember-requires same-length-7 same-length-8 same-length-9 returns-3)

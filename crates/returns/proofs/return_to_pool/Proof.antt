@@ -17,6 +17,9 @@ fits-requires c κs = search needs
 unfit-requires : tie.Need-unfit-requires
 unfit-requires c κs = search needs
 
+not-returned-requires : tie.Need-not-returned-requires
+not-returned-requires c κs = search needs
+
 same-length : tie.Need-same-length
 same-length c = refl
 
@@ -25,16 +28,20 @@ same-length-2 c = refl
 
 returns : tie.Need-returns
 unfolding returnedOf
-returns c = (
-  λ k ys f. not-met (c .before .before .fits2 .ensures) (c .before .if1 .taken) (fits-holds _ _ _ (f .tests .pool)),
-  (
-    return-unfit (c .before .before .before .before .before .before .before .before .before .before .args .mempool .pass .open) (c .unfit .ensures),
-    (λ k ys a. spares-same _ _, λ _. ap (λ n. refused n 0) (c .unfit .ensures)),
-  ),
-)
+returns c =
+    rw (c .not-returned .ensures) (
+      λ k ys f. not-met (c .before .before .before .fits2 .ensures) (c .before .before .if1 .taken) (fits-holds _ _ _ (f .tests .pool)),
+      (
+        return-unfit (c .before .before .before .before .before .before .before .before .before .before .before .args .mempool .pass .open) (c .before .unfit .ensures),
+        (λ k ys a. spares-same _ _, λ _. ap (λ n. refused n 0) (c .before .unfit .ensures)),
+      ),
+    )
 
 check-return-requires : tie.Need-check-return-requires
 check-return-requires c κs = fits-true _ _ _ (met (c .before .before .before .fits2 .ensures) (c .before .before .if1 .left))
+
+not-returned-requires-2 : tie.Need-not-returned-requires-2
+not-returned-requires-2 c κs = search needs
 
 same-length-3 : tie.Need-same-length-3
 same-length-3 c = refl
@@ -43,13 +50,14 @@ same-length-4 : tie.Need-same-length-4
 same-length-4 c = refl
 
 returns-2 : tie.Need-returns-2
-returns-2 c = (
-  return-stopped _ _ _ _ _ _ (c .before .check-return .ensures) (c .if2 .taken),
-  (
-    return-numbered _ _ _ _ _ _ _ (c .before .check-return .ensures) (c .if2 .taken),
-    (λ k ys a. spares-same _ _, was-met (c .before .before .before .before .before .fits2 .ensures) (c .before .before .before .before .if1 .left)),
-  ),
-)
+returns-2 c =
+    rw (c .not-returned2 .ensures) (
+      return-stopped _ _ _ _ _ _ (c .before .before .check-return .ensures) (c .before .if2 .taken),
+      (
+        return-numbered _ _ _ _ _ _ _ (c .before .before .check-return .ensures) (c .before .if2 .taken),
+        (λ k ys a. spares-same _ _, was-met (c .before .before .before .before .before .before .fits2 .ensures) (c .before .before .before .before .before .if1 .left)),
+      ),
+    )
 
 returned-entry-requires : tie.Need-returned-entry-requires
 returned-entry-requires c κs = search needs
@@ -77,4 +85,4 @@ returns-3 c = (
 )
 
 pub return-to-pool-spec : {M : Type 1} → statement M
-return-to-pool-spec = tie.close (tie.spec fits-requires unfit-requires same-length same-length-2 returns check-return-requires same-length-3 same-length-4 returns-2 returned-entry-requires enter-requires same-length-5 same-length-6 returns-3)
+return-to-pool-spec = tie.close (tie.spec fits-requires unfit-requires not-returned-requires same-length same-length-2 returns check-return-requires not-returned-requires-2 same-length-3 same-length-4 returns-2 returned-entry-requires enter-requires same-length-5 same-length-6 returns-3)
