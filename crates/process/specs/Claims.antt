@@ -1,6 +1,6 @@
 -- What the submission by value claims, way by way: its caller charges what is due to the peer records, and then all is as defined.
-use Prim.Native.Nat.{ℕ, _≤_, min, max}
-use mathlib.Core.Path.{_≡_, refl, ap, _∙_}
+use Prim.Native.Nat.{ℕ, _/_, _≤_, min, max}
+use mathlib.Core.Path.{_≡_, refl, sym, ap, _∙_}
 use mathlib.Core.Bool.{Bool, true, false, not}
 use mathlib.Core.List.{List}
 use native.Mathlib.Omega.{arith}
@@ -24,13 +24,16 @@ use Rattle.answers.specs.Answers.{wrote-nothing}
 use Rattle.store.specs.World.{World, worldOf, Result, unchanged}
 use Rattle.store.specs.Fits.{Testable, Fits, allFit, goes-on, un-not, met, was-met, cache-fits}
 use Rattle.store.specs.Fits.{unfit as no-fit}
+use Rattle.store.specs.Spares.{lent, Spares, spares-same, spares-refused}
 use Rattle.checks.specs.Passed.{Passed}
 use Rattle.admit.specs.Admit.{Admitted, costOf}
 use Rattle.admit.specs.Admission.{Leaves}
+use Rattle.admit.specs.Spares.{SparesWords}
+use Rattle.admit.specs.Placed.{writtenOf}
 use Rattle.admit.specs.declared.admission.Admission.{Admission}
 use Rattle.process.specs.Process.{Limits, standingOf, admitted, judged, processed}
 use Rattle.process.specs.Post.{Post}
-use Rattle.process.specs.Numbers.{ofSubmission, numbered, unfit-ours}
+use Rattle.process.specs.Numbers.{ofSubmission, numbered, unfit-ours, Charging}
 use Rattle.process.specs.declared.Processed.{Processed}
 use Rattle.process.specs.Bills.{askedPeer, standingFor, stands, noDue, billOf, Payable, Paid, Billed, billed, nothing-due}
 use Rattle.process.specs.declared.submission.Due.{Due}
@@ -52,6 +55,8 @@ pub record Claims (e₀ b₀ k₀ : List ℕ) (st : Mempool) (r : Submitted) (e 
   pub payable : Payable ys (r .due)
   pub outcome : processedOf (r .outcome) ≡ s .outcome
   pub post : (zs : List PeerRecord) → Paid ys zs (r .due) → Post st (answered r) e b k zs a₀ a s
+  pub spares : (zs : List PeerRecord) → Paid ys zs (r .due) → Spares (processedOf (r .outcome)) (lent e₀ b₀ k₀ ys a₀ st) (lent e b k zs a (r .mempool))
+  pub told : writtenOf (processedOf (r .outcome)) ≤ length a₀ / 4
 
 -- .. on words that may not fit
 pub record Offers (e₀ b₀ k₀ : List ℕ) (st : Mempool) (r : Submitted) (e b k : List ℕ) (ys : List PeerRecord) (a₀ a : List ℕ) (s : Result) : Type 0 where
@@ -59,8 +64,16 @@ pub record Offers (e₀ b₀ k₀ : List ℕ) (st : Mempool) (r : Submitted) (e 
   pub ours : ofSubmission (processedOf (r .outcome)) ≡ true
   pub unfit : allFit e₀ b₀ k₀ (length ys) st ≡ false → processedOf (r .outcome) ≡ refused (pick (st .pass .open) 20 1) 0
   pub post : Fits e₀ b₀ k₀ ys st → (zs : List PeerRecord) → Paid ys zs (r .due) → Post st (answered r) e b k zs a₀ a s
+  pub spares : (zs : List PeerRecord) → Paid ys zs (r .due) → Spares (processedOf (r .outcome)) (lent e₀ b₀ k₀ ys a₀ st) (lent e b k zs a (r .mempool))
+  pub told : writtenOf (processedOf (r .outcome)) ≤ length a₀ / 4
 
 -- ---- way by way
+
+never : {A : Type 0} → _≡_ {A = ℕ} 0 1 → A
+never z = absurd (omega arith)
+
+charged-not : {A : Type 0} {t : Bool} → t ≡ true → t ≡ false → A
+charged-not p q = let z : true ≡ false = sym p ∙ q in never cc
 
 pub claims-as : {e₀ b₀ k₀ : List ℕ} {st : Mempool} {r : Submitted} {e b k : List ℕ} {ys : List PeerRecord} {a₀ a : List ℕ} {s t : Result}
     → s ≡ t → Claims e₀ b₀ k₀ st r e b k ys a₀ a t → Claims e₀ b₀ k₀ st r e b k ys a₀ a s
@@ -68,30 +81,32 @@ claims-as q h = rw q h
 
 module _ (e b k : List ℕ) (ys : List PeerRecord) (a : List ℕ) (st : Mempool) (f : Fits e b k ys st) where
   -- nothing changed
-  pub claims-unchanged : (o : ProcessingOutcome) (n : Outcome) {u : Due} → processedOf o ≡ n → u ≡ noDue
+  pub claims-unchanged : (o : ProcessingOutcome) (n : Outcome) {u : Due} → processedOf o ≡ n → writtenOf n ≡ 0 → u ≡ noDue
       → Claims e b k st (record { mempool = st; outcome = o; due = u }) e b k ys a a (unchanged n (worldOf e b k ys st))
-  claims-unchanged o n q w =
+  claims-unchanged o n q z w =
       rw w
       (record {
         payable = nothing-due ys;
         outcome = q;
         post = λ zs p. rw (p .spared refl) (record { fits = f; config = refl; pass = refl; outcome = q; world = refl; wrote = wrote-nothing a 0 });
+        spares = λ zs p. rw (p .spared refl) (spares-same (processedOf o) (lent e b k ys a st));
+        told = omega (arith, ap writtenOf q ∙ z);
       })
 
   pub claims-refused : (n : ℕ) {u : Due} → u ≡ noDue → Claims e b k st (record { mempool = st; outcome = Declined n; due = u }) e b k ys a a (unchanged (refused n 0) (worldOf e b k ys st))
-  unfolding processedOf
-  claims-refused n w = claims-unchanged (Declined n) (refused n 0) refl w
+  unfolding processedOf writtenOf
+  claims-refused n w = claims-unchanged (Declined n) (refused n 0) refl refl w
 
-  module _ (visits : ℕ) (sub : Submission) (ins outs : List ℕ) {v : Verdict} {u : Due} where
+  module _ (visits room : ℕ) (sub : Submission) (ins outs : List ℕ) {v : Verdict} {u : Due} where
     pub claims-absent : v ≡ Absent → u ≡ noDue
-        → Claims e b k st (record { mempool = st; outcome = VerdictNeeded; due = u }) e b k ys a a (judged visits st (worldOf e b k ys st) sub ins outs v)
-    unfolding judged processedOf
-    claims-absent q w = rw q (claims-unchanged VerdictNeeded needed refl w)
+        → Claims e b k st (record { mempool = st; outcome = VerdictNeeded; due = u }) e b k ys a a (judged visits room st (worldOf e b k ys st) sub ins outs v)
+    unfolding judged processedOf writtenOf
+    claims-absent q w = rw q (claims-unchanged VerdictNeeded needed refl refl w)
 
     pub claims-invalid : (k' : List ℕ) (n : ℕ) → v ≡ Invalid → Inserted k k' (st .cached) n (st .config .«invalidation_capacity») (sub .time) (idOf (sub .id)) → u ≡ noDue
         → Claims e b k st (record { mempool = record { config = st .config; counts = st .counts; cached = n; sums = st .sums; pass = st .pass }; outcome = Declined 9; due = u }) e b k' ys a a
-        (judged visits st (worldOf e b k ys st) sub ins outs v)
-    unfolding judged processedOf
+        (judged visits room st (worldOf e b k ys st) sub ins outs v)
+    unfolding judged processedOf writtenOf
     claims-invalid k' n q i w =
         rw (q, w)
         (record {
@@ -106,14 +121,16 @@ module _ (e b k : List ℕ) (ys : List PeerRecord) (a : List ℕ) (st : Mempool)
                 world = rw (i .rows);
                 wrote = wrote-nothing a 0;
               });
+          spares = λ zs p. rw (p .spared refl) (spares-refused _ _ refl (record { tables = λ _. (refl, refl, refl); cache = λ z. never cc; peers = λ _. (refl, refl); answer = λ _. refl; rest = (refl, refl) }));
+          told = omega arith;
         })
 
   -- a valid one: the admission's tables, the charge beside them
-  pub claims-valid : (sub : Submission) (c : ℕ) (e' b' a' : List ℕ) (d : Admitted) (n : Admission) (g : Bill) {cost : ℕ}
-      → Leaves e' b' n a a' d → cost ≡ costOf c (sub .size) → Billed ys (st .sums) (sub .source) cost g
+  pub claims-valid : (sub : Submission) (c : ℕ) (e' b' a' : List ℕ) (d : Admitted) (n : Admission) (g : Bill) {ks : List ℕ} {cost : ℕ}
+      → Leaves e' b' n a a' d → SparesWords ks e b a (st .counts) e' b' a' n → writtenOf (processedOf (n .outcome)) ≤ length a / 4 → Charging (d .outcome) → cost ≡ costOf c (sub .size) → Billed ys (st .sums) (sub .source) cost g
       → Claims e b k st (record { mempool = record { config = st .config; counts = n .counts; cached = st .cached; sums = g .sums; pass = st .pass }; outcome = n .outcome; due = g .due }) e' b' k ys a a'
       (admitted d (worldOf e b k ys st) sub c)
-  claims-valid sub c e' b' a' d n g {cost} l z h =
+  claims-valid sub c e' b' a' d n g {cost = cost} l v t y z h =
       record {
         payable = h .payable;
         outcome = l .outcome;
@@ -126,6 +143,19 @@ module _ (e b k : List ℕ) (ys : List PeerRecord) (a : List ℕ) (st : Mempool)
               world = rw (l .left .tables, h .sum, h .peers zs p, z);
               wrote = l .wrote;
             };
+        spares = λ zs p.
+            record {
+              asked = λ q. absurd (y .given (sym (l .outcome) ∙ q));
+              refusal = λ j i q.
+                  record {
+                    tables = v .tables j i q;
+                    cache = λ _. (refl, refl);
+                    peers = λ off. charged-not (y .charges j i (sym (l .outcome) ∙ q)) off;
+                    answer = v .answer j i q;
+                    rest = (refl, refl);
+                  };
+            };
+        told = t;
       }
 
 -- the bill of a submission that passed its tests
@@ -153,7 +183,7 @@ module _ (e₀ b₀ k₀ : List ℕ) (n : ℕ) (st : Mempool) {t : Bool} (q : t 
   module _ (ys : List PeerRecord) (l : length ys ≡ n) where
     pub offers-nothing : not t ≡ true → {m : ℕ} → m ≡ pick (st .pass .open) 20 1 → {u : Due} → u ≡ noDue → (a : List ℕ) (s : Result)
         → Offers e₀ b₀ k₀ st (record { mempool = st; outcome = Declined m; due = u }) e₀ b₀ k₀ ys a a s
-    unfolding processedOf
+    unfolding processedOf writtenOf
     offers-nothing z p w a s =
         rw w
         (record {
@@ -161,6 +191,8 @@ module _ (e₀ b₀ k₀ : List ℕ) (n : ℕ) (st : Mempool) {t : Bool} (q : t 
           ours = unfit-ours (st .pass .open) p;
           unfit = λ _. ap (λ (j : ℕ). refused j 0) p;
           post = λ f. absurd (no-fit e₀ b₀ k₀ ys n st l q z f);
+          spares = λ zs h. rw (h .spared refl) (spares-same _ (lent e₀ b₀ k₀ ys a st));
+          told = omega arith;
         })
 
     pub offers : not t ≡ false → (m : Limits) (w : World) (room : ℕ) (sub : Submission) (ins outs : List ℕ) {r : Submitted} {e b k a₀ a : List ℕ}
@@ -171,4 +203,6 @@ module _ (e₀ b₀ k₀ : List ℕ) (n : ℕ) (st : Mempool) {t : Bool} (q : t 
           ours = ap ofSubmission (h .outcome) ∙ numbered m st w room sub ins outs;
           unfit = λ off. was-met q z (rw (← l) off);
           post = λ _. h .post;
+          spares = h .spares;
+          told = h .told;
         }

@@ -55,15 +55,15 @@ admitted d w a c =
     }
 
 -- "then an absent verdict answers 'verdict needed', changing nothing (added); 9; a remote peer is charged; ..". 9: "invalid verdict; the id enters the cache"
-unfoldable pub judged : ℕ → Mempool → World → Submission → List ℕ → List ℕ → Verdict → Result
-judged visits st w a ins outs Absent = unchanged needed w
-judged visits st w a ins outs Invalid =
+unfoldable pub judged : ℕ → ℕ → Mempool → World → Submission → List ℕ → List ℕ → Verdict → Result
+judged visits room st w a ins outs Absent = unchanged needed w
+judged visits room st w a ins outs Invalid =
     record {
       outcome = refused 9 0;
       world = world (w .tables) (remember (st .config .«invalidation_capacity») (a .time) (idOf (a .id)) (w .cache)) (w .sum) (w .peers);
       written = [];
     }
-judged visits st w a ins outs (Valid c) = admitted (admitSpec visits (st .config) (w .tables) a c ins outs) w a c
+judged visits room st w a ins outs (Valid c) = admitted (admitSpec visits room (st .config) (w .tables) a c ins outs) w a c
 
 -- ---- the whole
 
@@ -76,5 +76,5 @@ unfoldable pub processed : Limits → Mempool → World → ℕ → Submission �
 processed m st w room a ins outs =
     unlessRefused
     (refusalOf (m .inputs) (m .entries) (m .boxes) st room (w .tables) (w .cache) (standingOf (a .source) (w .peers)) a ins outs)
-    (judged (m .visits) st w a ins outs (a .verdict))
+    (judged (m .visits) room st w a ins outs (a .verdict))
     w

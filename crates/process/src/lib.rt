@@ -13,12 +13,14 @@ use submission::seek;
 use submission::submit;
 ghost use mathlib.Core.Path.{_≡_};
 ghost use mathlib.Core.Bool.{true, false};
-ghost use Prim.Native.Nat.{min};
+ghost use Prim.Native.Nat.{_/_, _≤_, min};
 ghost use lib.ListN.{length};
 ghost use Rattle.words.specs.Lists.{pick};
 ghost use Rattle.pool_types.specs.Outcomes.{processedOf, refused};
 ghost use Rattle.peers.specs.Peers.{peersOf, standing};
 ghost use Rattle.store.specs.Fits.{allFit};
+ghost use Rattle.store.specs.Spares.{lent, Spares};
+ghost use Rattle.admit.specs.Placed.{writtenOf};
 ghost use Rattle.process.specs.Bills.{askedPeer, Payable, Paid};
 ghost use Rattle.process.specs.Numbers.{ofSubmission};
 ghost use Rattle.process.specs.Promises.{ProcessPromise};
@@ -65,7 +67,9 @@ pub fn process(
 ) -> Processed
     ensures { λ r. ⌜ ProcessPromise (now (entries .entry)) (now (boxes .entry)) (now (cache .entry)) (now (peers .entry)) mempool sub (now (inputs .entry)) (now (outputs .entry)) (now (entries .exit)) (now (boxes .exit)) (now (cache .exit)) (now (peers .exit)) (now (answer .entry)) (now (answer .exit)) r
         × (ofSubmission (processedOf (r .outcome)) ≡ true)
-        × (allFit (now (entries .entry)) (now (boxes .entry)) (now (cache .entry)) (length (now (peers .entry))) mempool ≡ false → processedOf (r .outcome) ≡ refused (pick (mempool .pass .open) 20 1) 0) ⌝ }
+        × (allFit (now (entries .entry)) (now (boxes .entry)) (now (cache .entry)) (length (now (peers .entry))) mempool ≡ false → processedOf (r .outcome) ≡ refused (pick (mempool .pass .open) 20 1) 0)
+        × Spares (processedOf (r .outcome)) (lent (now (entries .entry)) (now (boxes .entry)) (now (cache .entry)) (now (peers .entry)) (now (answer .entry)) mempool) (lent (now (entries .exit)) (now (boxes .exit)) (now (cache .exit)) (now (peers .exit)) (now (answer .exit)) (r .mempool))
+        × (writtenOf (processedOf (r .outcome)) ≤ length (now (answer .entry)) / 4) ⌝ }
 {
     let found = look_up(peers, mempool, sub);
     let done = submit(

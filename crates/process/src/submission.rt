@@ -13,6 +13,7 @@ use pool_types::Verdict;
 use store::fits_all;
 use store::unfit;
 use words::sums::saturating_add;
+use words::sums::smaller;
 ghost use mathlib.Core.Path.{_≡_};
 ghost use mathlib.Core.List.{List};
 ghost use Prim.Native.Nat.{ℕ, _≤_, _/_, min};
@@ -58,12 +59,6 @@ pub struct Submitted {
 }
 
 // ---- the peer
-
-fn smaller(a: usize, b: usize) -> usize
-    ensures { λ r. ⌜ r ≡ min a b ⌝ }
-{
-    if a < b { a } else { b }
-}
 
 // Whom to look for, on a count that may not fit the records. A local submission looks for no one: what is found is not used.
 pub fn seek(mempool: Mempool, sub: Submission, records: usize) -> Sought
@@ -144,7 +139,7 @@ fn valid(
     ensures { λ r. ⌜ ((k : List ℕ) (ys : List PeerRecord) → Fits (now (entries .entry)) (now (boxes .entry)) k ys mempool →
         standing ≡ standingOf (sub .source) (peersOf ys (mempool .sums .peers)) →
         Claims (now (entries .entry)) (now (boxes .entry)) k mempool r (now (entries .exit)) (now (boxes .exit)) k ys (now (answer .entry)) (now (answer .exit))
-        (admitted (admitSpec 500 (mempool .config) (tablesOf (now (entries .entry)) (now (boxes .entry)) (mempool .counts)) sub cost (now (inputs .entry)) (now (outputs .entry)))
+        (admitted (admitSpec 500 (length (now (answer .entry)) / 4) (mempool .config) (tablesOf (now (entries .entry)) (now (boxes .entry)) (mempool .counts)) sub cost (now (inputs .entry)) (now (outputs .entry)))
         (worldOf (now (entries .entry)) (now (boxes .entry)) k ys mempool) sub cost)) ⌝ }
 {
     let source = sub.source;
@@ -195,7 +190,7 @@ fn judge(
     ensures { λ r. ⌜ ((ys : List PeerRecord) → Fits (now (entries .entry)) (now (boxes .entry)) (now (cache .entry)) ys mempool →
         standing ≡ standingOf (sub .source) (peersOf ys (mempool .sums .peers)) →
         Claims (now (entries .entry)) (now (boxes .entry)) (now (cache .entry)) mempool r (now (entries .exit)) (now (boxes .exit)) (now (cache .exit)) ys (now (answer .entry)) (now (answer .exit))
-        (judged 500 mempool (worldOf (now (entries .entry)) (now (boxes .entry)) (now (cache .entry)) ys mempool) sub (now (inputs .entry)) (now (outputs .entry)) (sub .verdict))) ⌝ }
+        (judged 500 (length (now (answer .entry)) / 4) mempool (worldOf (now (entries .entry)) (now (boxes .entry)) (now (cache .entry)) ys mempool) sub (now (inputs .entry)) (now (outputs .entry)) (sub .verdict))) ⌝ }
 {
     let verdict = sub.verdict;
     match verdict {
