@@ -31,8 +31,8 @@ pub record Progress : Type 0 where
   pub stats : FeeStats
   pub removed : List ℕ
 
--- ---- one transaction: "for each transaction in order, a pooled one is confirmed in the statistics and removed and written; then for each of its
--- inputs, a spender that is another transaction is removed and written"
+-- ---- one transaction, as the Rust has it: one that is pooled is confirmed in the statistics, removed and written; then for each of its inputs a
+-- spender that is another transaction is removed and written
 
 -- the confirming step of the entry that was found (60,000 ms: the statistics' interval)
 unfoldable pub recorded : ℕ → List Entry → FeeStats → FeeStats

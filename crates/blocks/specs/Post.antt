@@ -1,98 +1,157 @@
 -- What a block leaves, as its contract says it: one record, of the words, the state and the statistics at exit, against a result of the definitions.
-use Prim.Native.Nat.{ℕ, _+_, _/_, _≤_}
-use mathlib.Core.Path.{_≡_, refl}
+use Prim.Native.Nat.{ℕ, _/_, _≤_}
+use mathlib.Core.Path.{_≡_, refl, sym, ap, _∙_}
+use mathlib.Core.Bool.{Bool, true, false}
 use mathlib.Core.List.{List}
 use native.Mathlib.Omega.{arith}
+use lib.Dec.{eqb}
 use lib.ListN.{length}
-use borrow.Author.Tests.{eq-eqb, ne-eqb}
+use borrow.Author.Tests.{eq-eqb, ne-eqb, eqb-true, eqb-false}
 use Rattle.words.specs.Lists.{pick, yes, no}
-use Rattle.words.specs.Tables.{of-none}
 use Rattle.pool_types.specs.declared.Mempool.{Mempool}
 use Rattle.pool_types.specs.declared.BlockOutcome.the-variants.{Removed, NotApplied}
-use Rattle.pool_types.specs.Outcomes.{blockOf, refused}
-use Rattle.expiring_cache.specs.Layout.{room-still, Pruned}
+use Rattle.pool_types.specs.Outcomes.{blockOf, refused, wrote}
+use Rattle.expiring_cache.specs.Layout.{room-still}
 use Rattle.stats.specs.declared.FeeStats.{FeeStats}
-use Rattle.peers.specs.Flat.{flats}
+use Rattle.peers.specs.declared.PeerRecord.{PeerRecord}
 use Rattle.answers.specs.Answers.{Wrote, wrote-nothing}
 use Rattle.store.specs.World.{World, worldOf, unchanged}
-use Rattle.store.specs.Fits.{Fits}
-use Rattle.blocks.specs.Blocks.{appliedTxs, confirmedOf, blockRefusal, BlockResult, settled, begun, applied}
-use Rattle.blocks.specs.Steps.{Doing, Does}
+use Rattle.store.specs.Fits.{Fits, cacheFits, cache-holds}
+use Rattle.store.specs.Spares.{Spares, lent, spares-same, spares-wrote}
+use Rattle.blocks.specs.Blocks.{Progress, appliedTxs, confirmedOf, blockRefusal, BlockResult, settled, begun, applied}
+use Rattle.blocks.specs.Steps.{Doing, later-all}
+use Rattle.blocks.specs.Tests.{code-none, code-unfit, code-fits}
+use Rattle.blocks.specs.Runs.{Running, finished}
+use Rattle.blocks.specs.Numbers.{ofBlock, removed-ours, any-ours}
 use Rattle.blocks.specs.declared.Applied.{Applied}
-use Rattle.blocks.specs.declared.Removal.{Removal}
+use Rattle.blocks.specs.declared.Blocked.{Blocked}
+use Rattle.blocks.specs.declared.Run.{Run}
 
--- what is to come of a block at `time` on these words, with an answer buffer of the words a
-abbrev pub resultOf : List ℕ → List ℕ → List ℕ → List ℕ → List ℕ → Mempool → FeeStats → ℕ → List ℕ → List ℕ → BlockResult
-resultOf e b k p a st s time txs ins = applied st (worldOf e b k p st) s (length a / 4) time txs ins
+-- what is to come of a block at `time` on these words and peer records, with an answer buffer of the words a
+abbrev pub resultOf : List ℕ → List ℕ → List ℕ → List PeerRecord → List ℕ → Mempool → FeeStats → ℕ → List ℕ → List ℕ → BlockResult
+resultOf e b k ys a st s time txs ins = applied st (worldOf e b k ys st) s (length a / 4) time txs ins
 
--- from the state st, r was handed back; the words are now those of e, b, k and p, and the answer buffer's were a₀ and are a
-pub record Post (st : Mempool) (r : Applied) (e b k p a₀ a : List ℕ) (s : BlockResult) : Type 0 where
-  pub fits : Fits e b k p (r .mempool)
+-- from the state st, r was handed back; the words are now those of e, b and k, the peer records are still ys, and the answer buffer's words were a₀ and
+-- are a
+pub record Post (st : Mempool) (r : Applied) (e b k : List ℕ) (ys : List PeerRecord) (a₀ a : List ℕ) (s : BlockResult) : Type 0 where
+  pub fits : Fits e b k ys (r .mempool)
   pub config : r .mempool .config ≡ st .config
   pub pass : r .mempool .pass ≡ st .pass
   pub outcome : blockOf (r .outcome) ≡ s .result .outcome
-  pub world : worldOf e b k p (r .mempool) ≡ s .result .world
+  pub world : worldOf e b k ys (r .mempool) ≡ s .result .world
   pub stats : r .stats ≡ s .stats
   pub wrote : Wrote a₀ a 0 (s .result .written)
   -- each id that is written has its place
   pub placed : length (s .result .written) ≤ length a₀ / 4
 
--- where the counts do not fit: 20 where a pass is open, else 1, and not a word is another
-pub record Untouched (st : Mempool) (s : FeeStats) (r : Applied) (e₀ e b₀ b k₀ k a₀ a : List ℕ) : Type 0 where
-  pub mempool : r .mempool ≡ st
-  pub stats : r .stats ≡ s
-  pub outcome : blockOf (r .outcome) ≡ refused (pick (st .pass .open) 20 1) 0
-  pub entries : e ≡ e₀
-  pub boxes : b ≡ b₀
-  pub cache : k ≡ k₀
-  pub answer : a ≡ a₀
+-- what a block promises of a store that fits the state, whatever the peer records are: the words were e, b and k and are e', b' and k', the answer
+-- buffer's were a and are a', the state was st, the statistics were s and are those of r
+abbrev pub BlockPromise : List ℕ → List ℕ → List ℕ → Mempool → FeeStats → ℕ → List ℕ → List ℕ → List ℕ → List ℕ → List ℕ → List ℕ → List ℕ → Applied → Type 0
+BlockPromise e b k st s time txs ins e' b' k' a a' r =
+    (ys : List PeerRecord) → Fits e b k ys st → Post st r e' b' k' ys a a' (resultOf e b k ys a st s time txs ins)
 
-pub untouched : (e b k a : List ℕ) (st : Mempool) (s : FeeStats) {n : ℕ} → n ≡ pick (st .pass .open) 20 1
-    → Untouched st s (record { mempool = st; stats = s; outcome = NotApplied n }) e e b b k k a a
-unfolding blockOf
-untouched e b k a st s q = record { mempool = refl; stats = refl; outcome = rw q; entries = refl; boxes = refl; cache = refl; answer = refl }
+-- what was handed back, with the statistics as the caller finds them
+abbrev pub handed : Blocked → FeeStats → Applied
+handed r s = record { mempool = r .mempool; stats = s; outcome = r .outcome }
 
--- ---- way by way
-
-pub post-as : {st : Mempool} {r : Applied} {e b k p a₀ a : List ℕ} {s t : BlockResult} → s ≡ t → Post st r e b k p a₀ a t → Post st r e b k p a₀ a s
-post-as q h = rw q h
-
-module _ (e b k p a : List ℕ) (st : Mempool) (f : Fits e b k p st) (s : FeeStats) where
-  -- a refusal changes nothing
-  pub post-refused : (n : ℕ) → Post st (record { mempool = st; stats = s; outcome = NotApplied n }) e b k p a a (record { result = unchanged (refused n 0) (worldOf e b k p st); stats = s })
-  unfolding blockOf
-  post-refused n =
-      record { fits = f; config = refl; pass = refl; outcome = refl; world = refl; stats = refl; wrote = wrote-nothing a 0; placed = omega arith }
-
-  -- the transactions were applied, and the cache was pruned
-  pub post-settled : (time at : ℕ) (txs ins e' b' k' a' : List ℕ) (g : Removal) (n x y w : ℕ) → st .counts .pooled + 1 ≤ length a / 4
-      → Does (appliedTxs time (confirmedOf txs ins)) e b a (record { counts = st .counts; stats = s; written = 0 }) e' b' a' g
-      → Pruned k k' (st .cached) n (st .config .«invalidation_ttl») at → at ≡ time → x ≡ 0 → y ≡ 0 → w ≡ g .written
-      → Post st (record { mempool = record { config = st .config; counts = g .counts; cached = n; sums = record { «interblock_cost» = x; peers = y }; pass = st .pass }; stats = g .stats; outcome = Removed w })
-      e' b' k' p a a' (settled st (worldOf e b k p st) time (appliedTxs time (confirmedOf txs ins) (begun (worldOf e b k p st) s)))
-  unfolding blockOf settled
-  post-settled time at txs ins e' b' k' a' g n x y w room d i t sum peers count =
-      record {
-        fits = record { tests = record { pool = d .fits; cache = i .ok }; keeps = rw (room-still k k' (i .size)) (f .keeps); words = f .words; used = omega arith };
-        config = refl;
-        pass = refl;
-        outcome = rw (count, h .count);
-        world = rw (h .tables, i .rows, t, sum, peers, of-none flats p);
-        stats = h .stats;
-        wrote = h .wrote;
-        placed = omega (arith, h .count, d .sum);
-      }
-    where
-      h : Doing e' b' a a' g (appliedTxs time (confirmedOf txs ins) (begun (worldOf e b k p st) s))
-      h = d .does a (begun (worldOf e b k p st) s) (record { tables = refl; stats = refl; wrote = wrote-nothing a 0; count = refl })
-
--- ---- a refusal's number that is not 0 is the outcome; else the block is applied
+-- ---- the definitions' two ways: a refusal's number that is not 0 is the outcome; else the block is applied
 
 module _ (st : Mempool) (w : World) (s : FeeStats) (room time : ℕ) (txs ins : List ℕ) {n : ℕ} (e : n ≡ blockRefusal st room txs ins) where
-  pub stopped : (n ≡ 0 → ⊥) → applied st w s room time txs ins ≡ record { result = unchanged (refused n 0) w; stats = s }
+  stopped : (n ≡ 0 → ⊥) → applied st w s room time txs ins ≡ record { result = unchanged (refused n 0) w; stats = s }
   unfolding applied
   stopped h = rw (← e) (no _ _ _ (ne-eqb n 0 h))
 
-  pub goes-on : n ≡ 0 → applied st w s room time txs ins ≡ settled st w time (appliedTxs time (confirmedOf txs ins) (begun w s))
+  goes-on : n ≡ 0 → applied st w s room time txs ins ≡ settled st w time (appliedTxs time (confirmedOf txs ins) (begun w s))
   unfolding applied
   goes-on h = rw (← e) (yes _ _ _ (eq-eqb n 0 h))
+
+-- ---- a run that nothing is left of
+
+-- the state that is handed back
+abbrev after : Mempool → Run → Mempool
+after st r = record { config = st .config; counts = r .left .counts; cached = r .cached; sums = record { «interblock_cost» = 0; peers = 0 }; pass = st .pass }
+
+finished-refused : (st : Mempool) (r : Run) → (r .code ≡ 0 → ⊥) → finished st r ≡ record { mempool = st; outcome = NotApplied (r .code) }
+unfolding finished
+finished-refused st r h = no _ _ _ (ne-eqb (r .code) 0 h)
+
+finished-applied : (st : Mempool) (r : Run) → r .code ≡ 0 → finished st r ≡ record { mempool = after st r; outcome = Removed (r .left .written) }
+unfolding finished
+finished-applied st r h = yes _ _ _ (eq-eqb (r .code) 0 h)
+
+-- what the call promises, all of it
+pub record Promised (time : ℕ) (txs ins e b k a : List ℕ) (st : Mempool) (s : FeeStats) (e' b' k' a' : List ℕ) (r : Blocked) (x : FeeStats) : Type 0 where
+  pub promise : BlockPromise e b k st s time txs ins e' b' k' a a' (handed r x)
+  pub ours : ofBlock (blockOf (r .outcome)) ≡ true
+  pub spares : (ys : List PeerRecord) → Spares (blockOf (r .outcome)) (lent e b k ys a st) (lent e' b' k' ys a' (r .mempool))
+  pub stats : (j i : ℕ) → blockOf (r .outcome) ≡ refused j i → x ≡ s
+  pub unfit : cacheFits e b k st ≡ false → blockOf (r .outcome) ≡ refused (pick (st .pass .open) 20 1) 0
+  pub placed : (n : ℕ) → blockOf (r .outcome) ≡ wrote n → n ≤ length a / 4
+
+module _ {time : ℕ} {txs ins e b k a : List ℕ} {st : Mempool} {s : FeeStats} {e' b' k' a' : List ℕ} {r : Run} {x : FeeStats} (p : Running time txs ins e b k a st s e' b' k' a' r x) where
+  -- where the counts fit, the code is the definitions' refusal
+  fit-code : (ys : List PeerRecord) → Fits e b k ys st → r .code ≡ blockRefusal st (length a / 4) txs ins
+  fit-code ys f = p .code ∙ code-fits e b k st (length a / 4) txs ins (cache-holds e b k st ys f)
+
+  -- refused: nothing changed
+  module _ (h : r .code ≡ 0 → ⊥) where
+    refused-post : BlockPromise e b k st s time txs ins e' b' k' a a' (record { mempool = st; stats = x; outcome = NotApplied (r .code) })
+    unfolding blockOf
+    refused-post ys f =
+        let i = p .idle h in
+        rw (stopped st (worldOf e b k ys st) s (length a / 4) time txs ins (fit-code ys f) h, i .entries, i .boxes, i .cache, i .answer)
+        (record { fits = f; config = refl; pass = refl; outcome = refl; world = refl; stats = i .stats; wrote = wrote-nothing a 0; placed = omega arith })
+
+    promised-refused : Promised time txs ins e b k a st s e' b' k' a' (record { mempool = st; outcome = NotApplied (r .code) }) x
+    unfolding blockOf
+    promised-refused =
+        let i = p .idle h in
+        record {
+          promise = refused-post;
+          ours = any-ours e b k st (length a / 4) txs ins (p .code) h;
+          spares = λ ys. rw (i .entries, i .boxes, i .cache, i .answer) (spares-same (refused (r .code) 0) (lent e b k ys a st));
+          stats = λ _ _ _. i .stats;
+          unfit = λ z. rw (p .code ∙ code-unfit e b k st (length a / 4) txs ins z);
+          placed = λ n q. let o : _≡_ {A = ℕ} 0 1 = cc in absurd (omega arith);
+        }
+
+  -- applied, and nothing is left
+  module _ (h : r .code ≡ 0) (end : r .hit ≡ false) where
+    applied-post : BlockPromise e b k st s time txs ins e' b' k' a a' (record { mempool = after st r; stats = x; outcome = Removed (r .left .written) })
+    unfolding blockOf settled
+    applied-post ys f =
+        let g = p .going h in
+        let c = g .come in
+        let u : c .here ≡ appliedTxs time (confirmedOf txs ins) (begun (worldOf e b k ys st) s) = sym (later-all txs ins (r .at) (r .from) (g .ended end) time (c .here)) ∙ c .same in
+        let d : Doing e' b' a a' (r .left) (appliedTxs time (confirmedOf txs ins) (begun (worldOf e b k ys st) s)) = rw u at (c .doing) in
+        rw (goes-on st (worldOf e b k ys st) s (length a / 4) time txs ins (fit-code ys f) h)
+        (record {
+          fits = record { tests = record { pool = g .ready .safe .fits; cache = g .pruned .ok }; keeps = rw (room-still k k' (g .pruned .size)) (f .keeps); records = f .records; used = omega arith };
+          config = refl;
+          pass = refl;
+          outcome = rw (d .count);
+          world = rw (d .tables, g .pruned .rows);
+          stats = sym (rw end at (c .stats)) ∙ ap (λ (m : Progress). m .stats) u;
+          wrote = d .wrote;
+          placed = omega (arith, d .count, g .sum, g .room);
+        })
+
+    promised-applied : Promised time txs ins e b k a st s e' b' k' a' (record { mempool = after st r; outcome = Removed (r .left .written) }) x
+    unfolding blockOf
+    promised-applied =
+        let g = p .going h in
+        record {
+          promise = applied-post;
+          ours = removed-ours (r .left .written);
+          spares = λ ys. spares-wrote (lent e b k ys a st) (lent e' b' k' ys a' (after st r)) refl;
+          stats = λ j i q. let o : _≡_ {A = ℕ} 0 1 = cc in absurd (omega arith);
+          unfit = λ z. let y : false ≡ true = sym z ∙ code-none e b k st (length a / 4) txs ins (sym (p .code) ∙ h) .0 in let o : _≡_ {A = ℕ} 0 1 = cc in absurd (omega arith);
+          placed = λ n q. let o : r .left .written ≡ n = cc in omega (arith, g .sum, g .room);
+        }
+
+  pub promised : r .hit ≡ false → Promised time txs ins e b k a st s e' b' k' a' (finished st r) x
+  promised end = go (eqb (r .code) 0) refl
+    where
+      go : (t : Bool) → eqb (r .code) 0 ≡ t → Promised time txs ins e b k a st s e' b' k' a' (finished st r) x
+      go true q = let h = eqb-true (r .code) 0 q in rw (finished-applied st r h) (promised-applied h end)
+      go false q = let h : (r .code ≡ 0 → ⊥) = eqb-false (r .code) 0 q in rw (finished-refused st r h) (promised-refused h)

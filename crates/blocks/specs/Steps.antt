@@ -17,12 +17,10 @@ use Rattle.words.specs.Tables.{drop-of}
 use Rattle.pool_types.specs.declared.Counts.{Counts}
 use Rattle.arguments.specs.Arguments.{records, field, totalFrom, countsAgree}
 use Rattle.arguments.specs.Laws.{turn}
-use Rattle.stats.specs.Stats.{confirmed}
 use Rattle.stats.specs.declared.FeeStats.{FeeStats}
-use Rattle.entries.specs.Entries.{Entry, pooled, placeOf}
-use Rattle.entries.specs.Laws.{at-place, no-place, place-fits, length-without}
-use Rattle.entries.specs.Layout.{entryAt, entriesOf, entries, ok-bound}
-use Rattle.entries.specs.declared.table.Place.the-variants.{At, Nowhere}
+use Rattle.entries.specs.Entries.{pooled}
+use Rattle.entries.specs.Laws.{length-without}
+use Rattle.entries.specs.Layout.{entriesOf, entries, ok-bound}
 use Rattle.boxes.specs.Records.{index, lookup, dropOwner}
 use Rattle.boxes.specs.Layout.{boxesOf}
 use Rattle.boxes.specs.Flat.{countOf, ids}
@@ -39,10 +37,9 @@ pub record Safe (e b : List ℕ) (g : Removal) : Type 0 where
   pub fits : PoolFits e b (g .counts)
   pub few : g .written + g .counts .pooled ≤ cap
 
--- on words e and b, with an answer buffer that was a₀ when the block began and is a, the code is where the definitions are
+-- on words e and b, with an answer buffer that was a₀ when the block began and is a, the code is where the definitions are; it keeps no statistics
 pub record Doing (e b a₀ a : List ℕ) (g : Removal) (m : Progress) : Type 0 where
   pub tables : tablesOf e b (g .counts) ≡ m .tables
-  pub stats : g .stats ≡ m .stats
   pub wrote : Wrote a₀ a 0 (m .removed)
   pub count : g .written ≡ length (m .removed)
 
@@ -90,7 +87,7 @@ module _ (k : ℕ) (e b a e' b' : List ℕ) (g : Removal) (c : Counts) (l : Left
       omega (arith, u, remove-length k (tablesOf e b (g .counts)), entries .len e' (c .pooled), entries .len e (g .counts .pooled))
 
   -- as many as before: it was not pooled
-  pub does-nothing : c .pooled ≡ g .counts .pooled → Does (driveOut k) e b a g e' b' a (record { counts = c; stats = g .stats; written = g .written })
+  pub does-nothing : c .pooled ≡ g .counts .pooled → Does (driveOut k) e b a g e' b' a (record { counts = c; written = g .written })
   unfolding driveOut
   does-nothing h =
       record {
@@ -99,7 +96,7 @@ module _ (k : ℕ) (e b a e' b' : List ℕ) (g : Removal) (c : Counts) (l : Left
         does = λ a₀ m d.
             let q : pooled k (entriesOf e (g .counts .pooled)) ≡ false = as-many _ (c .pooled) (g .counts .pooled) left-count h in
             let z : pooled k (m .tables .entries) ≡ false = same-pooled k (d .tables) q in
-            rw z (record { tables = l .tables ∙ rw q (d .tables); stats = d .stats; wrote = d .wrote; count = d .count });
+            rw z (record { tables = l .tables ∙ rw q (d .tables); wrote = d .wrote; count = d .count });
       }
 
   -- one fewer: there is a number for one more
@@ -110,7 +107,7 @@ module _ (k : ℕ) (e b a e' b' : List ℕ) (g : Removal) (c : Counts) (l : Left
 
   -- .. it was, and it is written behind the others
   pub does-leave : (a' : List ℕ) (n r : ℕ) → (c .pooled ≡ g .counts .pooled → ⊥) → n ≡ g .written → r ≡ g .written + 1 → Wrote a a' n (k ∷ [])
-      → Does (driveOut k) e b a g e' b' a' (record { counts = c; stats = g .stats; written = r })
+      → Does (driveOut k) e b a g e' b' a' (record { counts = c; written = r })
   unfolding driveOut
   does-leave a' n r h u v w =
       record {
@@ -120,7 +117,6 @@ module _ (k : ℕ) (e b a e' b' : List ℕ) (g : Removal) (c : Counts) (l : Left
             let z : pooled k (m .tables .entries) ≡ true = same-pooled k (d .tables) p in
             rw z (record {
               tables = l .tables ∙ ap (removeTx k) (d .tables) ∙ rw z;
-              stats = d .stats;
               wrote = wrote-both a₀ a a' 0 (g .written) (m .removed) (k ∷ []) (d .count) (d .wrote) (rw (zero-add (g .written), ← u) w);
               count = v ∙ rw (length-append (m .removed) (k ∷ []), d .count);
             });
@@ -129,54 +125,30 @@ module _ (k : ℕ) (e b a e' b' : List ℕ) (g : Removal) (c : Counts) (l : Left
       p : pooled k (entriesOf e (g .counts .pooled)) ≡ true
       p = fewer (pooled k (entriesOf e (g .counts .pooled))) (c .pooled) (g .counts .pooled) left-count h
 
--- ---- it is confirmed: the statistics first
+-- ---- it is confirmed: it leaves as one that is driven out, and the statistics are another's matter
 
-pub recorded-there : (time k : ℕ) (s : FeeStats) (l : List ℕ) (n i : ℕ) {x : FeeStats} {created base : ℕ} → placeOf k (entriesOf l n) ≡ At i
-    → created ≡ entryAt l i .created → base ≡ entryAt l i .base → x ≡ confirmed 60000 s time created base → x ≡ recorded time (found (λ x. x .id) k (entriesOf l n)) s
-unfolding recorded
-recorded-there time k s l n i p c b q = q ∙ rw (at-place k i (entriesOf l n) p .one (entryAt l i), entries .get l n i (entryAt l i) (place-fits l n k i p), c, b)
-
-pub recorded-nowhere : (time k : ℕ) (s : FeeStats) (es : List Entry) → placeOf k es ≡ Nowhere → s ≡ recorded time (found (λ x. x .id) k es) s
-unfolding recorded
-recorded-nowhere time k s es p = rw (no-place k es p .none)
-
-unfound : (k : ℕ) (es : List Entry) → pooled k es ≡ false → found (λ x. x .id) k es ≡ []
-unfound k [] h = refl
-unfound k (e ∷ es) h = go (eqb (e .id) k) (unfound k es) h
+like-drive : (time k : ℕ) (m : Progress) → (driveOut k m .tables ≡ confirmOne time k m .tables) × (driveOut k m .removed ≡ confirmOne time k m .removed)
+unfolding driveOut confirmOne
+like-drive time k m = go (pooled k (m .tables .entries))
   where
-    go : (t : Bool) → (pooled k es ≡ false → found (λ x. x .id) k es ≡ []) → pick t true (pooled k es) ≡ false → pick t (e ∷ []) (found (λ x. x .id) k es) ≡ []
-    go true ih q = let z : _≡_ {A = ℕ} 0 1 = cc in absurd (omega arith)
-    go false ih q = ih q
+    out : FeeStats → Progress
+    out s = record { tables = removeTx k (m .tables); stats = s; removed = m .removed ++ (k ∷ []) }
 
--- the statistics changed, and nothing else yet
-abbrev counted : ℕ → ℕ → Progress → Progress
-counted time k m = record { tables = m .tables; stats = recorded time (found (λ x. x .id) k (m .tables .entries)) (m .stats); removed = m .removed }
+    go : (t : Bool)
+        → (pick t (out (m .stats)) m .tables ≡ pick t (out (recorded time (found (λ e. e .id) k (m .tables .entries)) (m .stats))) m .tables)
+        × (pick t (out (m .stats)) m .removed ≡ pick t (out (recorded time (found (λ e. e .id) k (m .tables .entries)) (m .stats))) m .removed)
+    go true = (refl, refl)
+    go false = (refl, refl)
 
-confirm-drive : (time k : ℕ) (m : Progress) → driveOut k (counted time k m) ≡ confirmOne time k m
-unfolding driveOut confirmOne recorded
-confirm-drive time k m = go (pooled k (m .tables .entries)) refl
-  where
-    out : Progress
-    out = record { tables = removeTx k (m .tables); stats = recorded time (found (λ x. x .id) k (m .tables .entries)) (m .stats); removed = m .removed ++ (k ∷ []) }
-
-    go : (t : Bool) → pooled k (m .tables .entries) ≡ t → pick t out (counted time k m) ≡ pick t out m
-    go true q = refl
-    go false q = rw (unfound k (m .tables .entries) q)
-
-pub does-confirm : (time k : ℕ) {e b a e' b' a' : List ℕ} {g r : Removal} {s : FeeStats} → s ≡ recorded time (found (λ x. x .id) k (entriesOf e (g .counts .pooled))) (g .stats)
-    → Does (driveOut k) e b a (record { counts = g .counts; stats = s; written = g .written }) e' b' a' r → Does (confirmOne time k) e b a g e' b' a' r
-does-confirm time k {e = e} {g = g} q h =
+pub does-confirm : (time k : ℕ) {e b a e' b' a' : List ℕ} {g r : Removal} → Does (driveOut k) e b a g e' b' a' r → Does (confirmOne time k) e b a g e' b' a' r
+does-confirm time k h =
     record {
       fits = h .fits;
       sum = h .sum;
       does = λ a₀ m d.
-          rw (← confirm-drive time k m)
-          (h .does a₀ (counted time k m) (record {
-            tables = d .tables;
-            stats = q ∙ ap (λ (t : Tables). recorded time (found (λ x. x .id) k (t .entries)) (g .stats)) (d .tables) ∙ ap (recorded time (found (λ x. x .id) k (m .tables .entries))) (d .stats);
-            wrote = d .wrote;
-            count = d .count;
-          }));
+          let i = h .does a₀ m d in
+          let q = like-drive time k m in
+          record { tables = i .tables ∙ q .0; wrote = rw (q .1) at (i .wrote); count = i .count ∙ ap length (q .1) };
     }
 
 -- ---- one input: what the index names
@@ -286,5 +258,5 @@ unfolding appliedTxs confirmedFrom
 later-all txs ins i j h time m = let e : records 5 txs - i ≡ 0 = omega arith in rw e
 
 -- ---- where a block begins: nothing is written, and a count of entries is a word
-pub safe-none : {e b : List ℕ} {c : Counts} (s : FeeStats) → PoolFits e b c → length e ≤ cap → Safe e b (record { counts = c; stats = s; written = 0 })
-safe-none {e} {b} {c} s f h = record { fits = f; few = omega (arith, ok-bound e (c .pooled) (f .entries)) }
+pub safe-none : {e b : List ℕ} {c : Counts} → PoolFits e b c → length e ≤ cap → Safe e b (record { counts = c; written = 0 })
+safe-none {e} {b} {c} f h = record { fits = f; few = omega (arith, ok-bound e (c .pooled) (f .entries)) }

@@ -1,47 +1,16 @@
--- The tests of a block: whether the counts fit, and the refusals in order.
+-- The tests of a block: the refusals in order, and on any words.
 use Prim.Native.Nat.{ℕ, _+_, _≤_, _<_}
-use mathlib.Core.Path.{_≡_, refl, sym, ap, _∙_}
+use mathlib.Core.Path.{_≡_, refl}
 use mathlib.Core.Bool.{Bool, true, false, not, _&&_}
 use mathlib.Core.List.{List}
 use native.Mathlib.Omega.{arith}
-use lib.Dec.{leb, ltb}
-use borrow.Author.Tests.{leb-true, le-leb, ltb-false, lt-ltb, le-ltb}
+use lib.Dec.{ltb}
+use borrow.Author.Tests.{ltb-false, lt-ltb, le-ltb}
 use Rattle.words.specs.Lists.{pick}
 use Rattle.pool_types.specs.declared.Mempool.{Mempool}
 use Rattle.arguments.specs.Arguments.{whole, countsAgree}
-use Rattle.expiring_cache.specs.Layout.{cacheRoom, ok-room, room-ok}
-use Rattle.pool.specs.Pool.{fitsTest}
-use Rattle.pool.specs.Laws.{fits-true, fits-holds}
-use Rattle.store.specs.Fits.{Testable}
+use Rattle.store.specs.Fits.{cacheFits, un-not}
 use Rattle.blocks.specs.Blocks.{readable, blockRefusal}
-
--- ---- the counts of pool and cache fit the words. The peers are not lent: a block frees their records by their count alone
-
-unfoldable pub tablesFit : List ℕ → List ℕ → List ℕ → Mempool → Bool
-tablesFit e b k st = pick (not (fitsTest e b (st .counts))) false (leb (st .cached) (cacheRoom k))
-
-goes-on : (t u : Bool) → pick t false u ≡ true → (t ≡ false) × (u ≡ true)
-goes-on true u q = let z : _≡_ {A = ℕ} 0 1 = cc in absurd (omega arith)
-goes-on false u q = (refl, q)
-
-un-not : (t : Bool) → not t ≡ false → t ≡ true
-un-not true q = refl
-un-not false q = let z : _≡_ {A = ℕ} 0 1 = cc in absurd (omega arith)
-
-module _ (e b k : List ℕ) (st : Mempool) where
-  -- what passes fits, and what fits passes
-  pub tables-true : {t : Bool} → t ≡ tablesFit e b k st → not t ≡ false → Testable e b k st
-  unfolding tablesFit
-  tables-true {t} q z =
-      let h = goes-on _ _ (sym q ∙ un-not t z) in
-      record { pool = fits-true e b (st .counts) (un-not _ (h .0)); cache = ok-room k (st .cached) (leb-true _ _ (h .1)) }
-
-  tables-hold : Testable e b k st → tablesFit e b k st ≡ true
-  unfolding tablesFit
-  tables-hold f = rw (fits-holds e b (st .counts) (f .pool)) (le-leb _ _ (room-ok k (st .cached) (f .cache)))
-
-  pub tables-false : {t : Bool} → t ≡ tablesFit e b k st → not t ≡ true → Testable e b k st → ⊥
-  tables-false {t} q z f = let y : false ≡ true = sym (ap not (q ∙ tables-hold f)) ∙ z in let x : _≡_ {A = ℕ} 0 1 = cc in omega arith
 
 -- ---- the lists, one test after the other
 
@@ -100,3 +69,26 @@ passed st room txs ins h =
     let q = past (not (readable txs ins)) 1 _ (λ z. omega arith) (p .1) in
     let r = past (ltb room (st .counts .pooled + 1)) 2 0 (λ z. omega arith) (q .1) in
     record { agree = last-of (whole 5 txs) (whole 4 ins) (countsAgree txs ins) (un-not (readable txs ins) (q .0)); room = ltb-false room (st .counts .pooled + 1) (r .0) }
+
+-- ---- the refusals on any words
+
+-- where the counts do not fit, 20 or 1
+unfoldable pub codeOf : List ℕ → List ℕ → List ℕ → Mempool → ℕ → List ℕ → List ℕ → ℕ
+codeOf e b k st room txs ins = pick (not (cacheFits e b k st)) (pick (st .pass .open) 20 1) (blockRefusal st room txs ins)
+
+some-code : (t : Bool) → _≡_ {A = ℕ} (pick t 20 1) 0 → ⊥
+some-code true q = omega arith
+some-code false q = omega arith
+
+module _ (e b k : List ℕ) (st : Mempool) (room : ℕ) (txs ins : List ℕ) where
+  pub code-none : codeOf e b k st room txs ins ≡ 0 → (cacheFits e b k st ≡ true) × (blockRefusal st room txs ins ≡ 0)
+  unfolding codeOf
+  code-none h = let p = past (not (cacheFits e b k st)) (pick (st .pass .open) 20 1) _ (some-code (st .pass .open)) h in (un-not _ (p .0), p .1)
+
+  pub code-unfit : cacheFits e b k st ≡ false → codeOf e b k st room txs ins ≡ pick (st .pass .open) 20 1
+  unfolding codeOf
+  code-unfit h = rw h
+
+  pub code-fits : cacheFits e b k st ≡ true → codeOf e b k st room txs ins ≡ blockRefusal st room txs ins
+  unfolding codeOf
+  code-fits h = rw h

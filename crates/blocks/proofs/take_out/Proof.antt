@@ -21,8 +21,8 @@ returns c = does-nothing _ _ _ _ _ _ _ _ (c .before .before .before .before .bef
 write-id-requires : tie.Need-write-id-requires
 write-id-requires c κs = search needs
 
-add-t17 : tie.Need-add-t17
-add-t17 c = omega (arith, one-more _ _ _ [] _ _ _ _ (c .before .before .before .before .before .before .before .before .before .before .before .before .remove .ensures) (c .before .before .before .before .before .before .before .before .before .before .before .before .before .before .before .before .before .before .before .before .pre) (λ z. omega (arith, c .before .before .before .before .before .if1 .left)))
+add-t16 : tie.Need-add-t16
+add-t16 c = omega (arith, one-more _ _ _ [] _ _ _ _ (c .before .before .before .before .before .before .before .before .before .before .before .before .remove .ensures) (c .before .before .before .before .before .before .before .before .before .before .before .before .before .before .before .before .before .before .before .pre) (λ z. omega (arith, c .before .before .before .before .before .if1 .left)))
 
 same-length-3 : tie.Need-same-length-3
 same-length-3 c = search needs
@@ -45,7 +45,7 @@ take-out-spec =
     same-length-2
     returns
     write-id-requires
-    add-t17
+    add-t16
     same-length-3
     same-length-4
     same-length-5

@@ -1,12 +1,12 @@
--- `blocks::recorded` meets its contract: what stands at the place that was found. Assumes nothing.
+-- `blocks::look` meets its contract: what stands at the place that was found. Assumes nothing.
 use borrow.Author.Needs.{needs}
 use native.Mathlib.Omega.{arith}
 use mathlib.Core.Path.{sym, _∙_}
 use Rattle.entries.specs.Laws.{place-fits}
 use Rattle.entries.specs.Layout.{ok-fewer}
-use Rattle.blocks.specs.Steps.{recorded-there, recorded-nowhere}
-use Rattle.blocks.proofs.recorded.Statement.{statement}
-use Rattle.blocks.proofs.recorded.Tie as tie
+use Rattle.blocks.specs.Runs.{seen-there, seen-nowhere}
+use Rattle.blocks.proofs.look.Statement.{statement}
+use Rattle.blocks.proofs.look.Tie as tie
 
 find-entry-requires : tie.Need-find-entry-requires
 find-entry-requires c κs = search needs
@@ -20,27 +20,23 @@ created-at-requires c κs = ok-fewer _ _ _ (c .before .before .before .before .b
 base-at-requires : tie.Need-base-at-requires
 base-at-requires c κs = ok-fewer _ _ _ (c .before .before .before .before .before .before .pre) (omega (arith, place-fits _ _ _ _ (sym (c .before .before .before .before .find-entry .ensures) ∙ c .before .before .i .given .1)))
 
-confirmed-requires : tie.Need-confirmed-requires
-confirmed-requires c κs = search needs
-
 enum-told : tie.Need-enum-told
 enum-told c = search needs
 
 returns : tie.Need-returns
-returns c = recorded-there _ _ _ _ _ _ (sym (c .before .before .before .before .before .before .find-entry .ensures) ∙ c .before .before .before .before .i .given .1) (c .before .before .created-at .ensures) (c .before .base-at .ensures) (c .confirmed .ensures)
+returns c = seen-there _ _ _ _ (sym (c .before .before .before .before .before .find-entry .ensures) ∙ c .before .before .before .i .given .1) (c .before .created-at .ensures) (c .base-at .ensures)
 
 returns-2 : tie.Need-returns-2
-returns-2 c = recorded-nowhere _ _ _ _ (sym (c .before .before .find-entry .ensures) ∙ c .enum-told .given .1)
+returns-2 c = seen-nowhere _ _ (sym (c .before .before .find-entry .ensures) ∙ c .enum-told .given .1)
 
-pub recorded-spec : {M : Type 1} → statement M
-recorded-spec =
+pub look-spec : {M : Type 1} → statement M
+look-spec =
     tie.close
     (tie.spec
     find-entry-requires
     enum-known-i
     created-at-requires
     base-at-requires
-    confirmed-requires
     enum-told
     returns
     returns-2)
