@@ -25,7 +25,7 @@ use Rattle.expiring_cache.specs.Layout.{cacheOf, cacheRoom}
 abbrev pub fitted : Bool → Outcome → Outcome
 fitted t o = pick t o (refused 1 0)
 
--- `contains`: "pooled, or held in the cache at the time given"
+-- `contains`: pooled, or held in the cache at the time given (docs/DECISIONS.md, D26)
 unfoldable pub containsOf : List ℕ → List ℕ → Mempool → ℕ → ℕ → Outcome
 containsOf e k st time id =
     fitted (leb (st .counts .pooled) (entriesRoom e))

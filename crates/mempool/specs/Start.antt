@@ -1,7 +1,7 @@
 -- A start: the settings and the sizes of the lent store (document 01, refusal 6: "settings: E, R or K outside its range, other than 256 peer
 -- records, capacity above E−1, cache above K, a cost limit above 2^63").
 use Prim.Native.Nat.{ℕ}
-use mathlib.Core.Path.{_≡_, refl}
+use mathlib.Core.Path.{_≡_, refl, sym, ap, _∙_}
 use mathlib.Core.Bool.{Bool, true, false, not}
 use lib.Dec.{eqb, leb, ltb}
 use Rattle.words.specs.Lists.{pick}
@@ -9,6 +9,7 @@ use Rattle.pool_types.specs.declared.MempoolConfig.{MempoolConfig}
 use Rattle.pool_types.specs.declared.Mempool.{Mempool}
 use Rattle.pool_types.specs.declared.StartOutcome.{StartOutcome}
 use Rattle.pool_types.specs.declared.StartOutcome.the-variants.{Ready, NotStarted}
+use Rattle.pool_types.specs.Outcomes.{Outcome, done, refused, startOf}
 
 -- "E entries (1 to 4,096), R box records (1 to 65,536) and K cache ids (1 to 10,000) are the sizes of the lent store"
 abbrev pub within : ℕ → ℕ → Bool
@@ -62,6 +63,10 @@ empty c =
 unfoldable pub started : Sizes → MempoolConfig → StartOutcome
 started z c = pick (sized z) (pick (settled z c) (Ready (empty c)) (NotStarted 6)) (NotStarted 6)
 
+-- .. and in document 01's numbers: 6, or ready
+unfoldable pub startAnswer : Sizes → MempoolConfig → Outcome
+startAnswer z c = pick (sized z) (pick (settled z c) done (refused 6 0)) (refused 6 0)
+
 -- ---- on edges
 
 edges : (sized (sizes 4096 65536 10000 256) ≡ true) × (sized (sizes 4097 1 1 256) ≡ false) × (sized (sizes 1 1 0 256) ≡ false) × (sized (sizes 1 1 1 255) ≡ false)
@@ -82,3 +87,16 @@ module _ (z : Sizes) (c : MempoolConfig) where
   pub is-ready : (st : Mempool) → sized z ≡ true → settled z c ≡ true → st ≡ empty c → Ready st ≡ started z c
   unfolding started
   is-ready st h k e = rw (h, k, e)
+
+  pub start-answer : startOf (started z c) ≡ startAnswer z c
+  unfolding started startAnswer startOf
+  start-answer = go (sized z) (settled z c)
+    where
+      go : (s t : Bool) → startOf (pick s (pick t (Ready (empty c)) (NotStarted 6)) (NotStarted 6)) ≡ pick s (pick t done (refused 6 0)) (refused 6 0)
+      go true true = refl
+      go true false = refl
+      go false t = refl
+
+  -- both clauses of a start's promise, from the first
+  pub promised : (o : StartOutcome) → o ≡ started z c → (o ≡ started z c) × (startOf o ≡ startAnswer z c)
+  promised o e = (e, ap startOf e ∙ start-answer)

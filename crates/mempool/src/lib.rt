@@ -13,10 +13,11 @@ use pool_types::StartOutcome;
 use pool_types::Sums;
 use words::ids::Id;
 ghost use mathlib.Core.Path.{_≡_};
+ghost use Rattle.pool_types.specs.Outcomes.{startOf};
 ghost use Rattle.entries.specs.Layout.{entriesRoom};
 ghost use Rattle.boxes.specs.Layout.{boxesRoom};
 ghost use Rattle.expiring_cache.specs.Layout.{cacheRoom};
-ghost use Rattle.mempool.specs.Start.{within, sizes, sized, settled, empty, started};
+ghost use Rattle.mempool.specs.Start.{within, sizes, sized, settled, empty, started, startAnswer};
 
 // ---- a start
 
@@ -102,6 +103,7 @@ pub fn start(
     config: MempoolConfig,
 ) -> StartOutcome
     ensures { λ r. ⌜ r ≡ started (sizes (entriesRoom (now (entries .entry))) (boxesRoom (now (boxes .entry))) (cacheRoom (now (cache .entry))) peers) config ⌝ }
+    ensures { λ r. ⌜ startOf r ≡ startAnswer (sizes (entriesRoom (now (entries .entry))) (boxesRoom (now (boxes .entry))) (cacheRoom (now (cache .entry))) peers) config ⌝ }
 {
     let e = entries_room(entries);
     let r = boxes_room(boxes);

@@ -10,7 +10,7 @@ use entries::table::is_pooled;
 use expiring_cache;
 use expiring_cache::cache_room;
 use indexes::owners::Owner;
-use indexes::owners::spender;
+use indexes::owners::owner_of;
 use pool_types::EntryOutcome;
 use pool_types::Mempool;
 use pool_types::TestOutcome;
@@ -73,7 +73,7 @@ fn entry_of(entries: &[u64], pooled: usize, id: Id) -> EntryOutcome
     }
 }
 
-// The transaction that spends a box.
+// The transaction that spends a box: the owner of the box as an input, not as an output.
 pub fn spending_tx(entries: &[u64], boxes: &[u64], mempool: Mempool, key: Id) -> EntryOutcome
     ensures { λ r. ⌜ lookedOf r ≡ spendingOf (now (entries .entry)) (now (boxes .entry)) mempool (idOf key) ⌝ }
 {
@@ -83,7 +83,7 @@ pub fn spending_tx(entries: &[u64], boxes: &[u64], mempool: Mempool, key: Id) ->
     if boxes_room(boxes) < mempool.counts.records {
         return EntryOutcome::NotLooked(1);
     }
-    let owner = spender(boxes, mempool.counts.records, key);
+    let owner = owner_of(boxes, mempool.counts.records, false, key);
     match owner {
         Owner::By(id) => entry_of(entries, mempool.counts.pooled, id),
         Owner::Nobody => EntryOutcome::NoEntry,

@@ -1,6 +1,7 @@
 -- `checks::check` meets its contract: the first of three chains that refuses gives the number. Assumes nothing.
 use borrow.Author.Needs.{needs}
 use mathlib.Core.Path.{sym, _∙_}
+use native.Mathlib.Omega.{arith}
 use Rattle.checks.specs.Checks.{refusalOf}
 use Rattle.checks.specs.Laws.{stops, goes}
 use Rattle.checks.proofs.check.Statement.{statement}
@@ -12,7 +13,7 @@ check-call-requires c κs = search needs
 returns : tie.Need-returns
 unfolding refusalOf
 returns c =
-    stops _ _ (c .before .check-call .ensures) (c .if1 .taken)
+    stops _ _ (c .before .check-call .ensures) (λ z. omega arith)
 
 check-state-requires : tie.Need-check-state-requires
 check-state-requires c κs = search needs
@@ -20,8 +21,8 @@ check-state-requires c κs = search needs
 returns-2 : tie.Need-returns-2
 unfolding refusalOf
 returns-2 c =
-    stops _ _ (c .before .check-state .ensures) (c .if2 .taken)
-    ∙ sym (goes _ _ (c .before .before .before .check-call .ensures) (c .before .before .if1 .left))
+    stops _ _ (c .before .check-state .ensures) (λ z. omega arith)
+    ∙ sym (goes _ _ (c .before .before .before .check-call .ensures) (omega arith))
 
 check-lists-requires : tie.Need-check-lists-requires
 check-lists-requires c κs = search needs
@@ -30,8 +31,8 @@ returns-3 : tie.Need-returns-3
 unfolding refusalOf
 returns-3 c =
     c .check-lists .ensures
-    ∙ sym (goes _ _ (c .before .before .check-state .ensures) (c .before .if2 .left))
-    ∙ sym (goes _ _ (c .before .before .before .before .check-call .ensures) (c .before .before .before .if1 .left))
+    ∙ sym (goes _ _ (c .before .before .check-state .ensures) (omega arith))
+    ∙ sym (goes _ _ (c .before .before .before .before .check-call .ensures) (omega arith))
 
 pub check-spec : {M : Type 1} → statement M
 check-spec =

@@ -25,8 +25,8 @@ returns-2 : tie.Need-returns-2
 unfolding lookedOf
 returns-2 c = spending-boxes _ _ _ _ (omega arith) (omega arith)
 
-spender-requires : tie.Need-spender-requires
-spender-requires c κs = boxes-ok _ _ (omega arith)
+owner-of-requires : tie.Need-owner-of-requires
+owner-of-requires c κs = boxes-ok _ _ (omega arith)
 
 enum-known-owner : tie.Need-enum-known-owner
 enum-known-owner c = search needs
@@ -38,11 +38,11 @@ enum-told : tie.Need-enum-told
 enum-told c = search needs
 
 returns-3 : tie.Need-returns-3
-returns-3 c = c .entry-of .ensures ∙ spending-by _ _ _ _ (omega arith) (omega arith) (_ ∷ []) (sym (ap ownerIds (c .before .before .owner .given .1)) ∙ c .before .before .before .before .spender .ensures)
+returns-3 c = c .entry-of .ensures ∙ spending-by _ _ _ _ (omega arith) (omega arith) (_ ∷ []) (sym (ap ownerIds (c .before .before .owner .given .1)) ∙ c .before .before .before .before .owner-of .ensures)
 
 returns-4 : tie.Need-returns-4
 unfolding lookedOf
-returns-4 c = spending-by _ _ _ _ (omega arith) (omega arith) [] (sym (ap ownerIds (c .enum-told .given .1)) ∙ c .before .before .spender .ensures)
+returns-4 c = spending-by _ _ _ _ (omega arith) (omega arith) [] (sym (ap ownerIds (c .enum-told .given .1)) ∙ c .before .before .owner-of .ensures)
 
 pub spending-tx-spec : {M : Type 1} → statement M
 spending-tx-spec =
@@ -52,7 +52,7 @@ spending-tx-spec =
     returns
     boxes-room-requires
     returns-2
-    spender-requires
+    owner-of-requires
     enum-known-owner
     entry-of-requires
     enum-told
