@@ -227,10 +227,8 @@ fn end_pass(mempool: Mempool) -> Offered
 fn not_offered(mempool: Mempool, code: u64) -> Offered
     ensures { λ r. ⌜ r ≡ record { mempool = mempool; outcome = NoPass code } ⌝ }
 {
-    Offered {
-        mempool,
-        outcome: NextOutcome::NoPass(code),
-    }
+    let outcome = NextOutcome::NoPass(code);
+    Offered { mempool, outcome }
 }
 
 // The next candidate, or the one that waits for its answer; or that the pass has ended. On words and counts that no start and calls left it is
@@ -418,10 +416,8 @@ fn weigh(
 fn not_answered(mempool: Mempool, code: u64) -> Answered
     ensures { λ r. ⌜ r ≡ record { mempool = mempool; outcome = NotAnswered code } ⌝ }
 {
-    Answered {
-        mempool,
-        outcome: AnswerOutcome::NotAnswered(code),
-    }
+    let outcome = AnswerOutcome::NotAnswered(code);
+    Answered { mempool, outcome }
 }
 
 // What is known of the candidate: one flag 'confirmed' for each of its inputs, in order, and the verdict. Safe as `next` is.

@@ -192,10 +192,8 @@ fn enter(
 fn not_returned(mempool: Mempool, code: u64) -> Returned
     ensures { λ r. ⌜ r ≡ record { mempool = mempool; outcome = NotReturned code } ⌝ }
 {
-    Returned {
-        mempool,
-        outcome: ReturnOutcome::NotReturned(code),
-    }
+    let outcome = ReturnOutcome::NotReturned(code);
+    Returned { mempool, outcome }
 }
 
 // Gives a transaction back to the pool, without a verdict. On words and counts that no start and calls left it is safe, and answers with a
@@ -264,10 +262,8 @@ pub fn remember(cache: &mut [u64], mempool: Mempool, time: u64, id: Id) -> Mempo
 fn not_invalidated(mempool: Mempool, code: u64) -> Invalidated
     ensures { λ r. ⌜ r ≡ record { mempool = mempool; outcome = NotInvalidated code } ⌝ }
 {
-    Invalidated {
-        mempool,
-        outcome: InvalidateOutcome::NotInvalidated(code),
-    }
+    let outcome = InvalidateOutcome::NotInvalidated(code);
+    Invalidated { mempool, outcome }
 }
 
 // Takes a transaction out of the pool, where it is there, and remembers its id as invalid. Safe as `return_to_pool` is.
