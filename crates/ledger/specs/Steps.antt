@@ -23,7 +23,7 @@ use Rattle.process.specs.declared.Processed.{Processed}
 use Rattle.returns.specs.Post.{Meets}
 use Rattle.returns.specs.Promises.{ReturnPromise, InvalidatePromise}
 use Rattle.returns.specs.declared.UnconfirmedTx.{UnconfirmedTx}
-use Rattle.blocks.specs.Promises.{BlockPromise}
+use Rattle.blocks.specs.Post.{BlockPromise}
 use Rattle.blocks.specs.declared.Applied.{Applied}
 use Rattle.cleanup.specs.Passes.{passOf, PassResult, still}
 use Rattle.cleanup.specs.Post.{PassPost}
