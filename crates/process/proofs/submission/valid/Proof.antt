@@ -24,7 +24,7 @@ same-length-3 : tie.Need-same-length-3
 same-length-3 c = search needs
 
 returns : tie.Need-returns
-returns c = λ k ys f q. claims-valid _ _ _ _ _ _ f (c .before .before .before .before .before .before .before .before .before .before .before .before .before .before .before .before .before .before .before .before .before .before .before .before .before .args .sub) _ _ _ _ _ _ (c .before .before .before .before .before .before .before .before .before .before .before .admit .ensures .0) (c .before .before .before .before .before .before .before .before .before .before .before .admit .ensures .1 .0) (c .before .before .before .before .before .before .before .before .before .before .before .admit .ensures .1 .1) (admit-charges _ _ _ _ _ _ _ _) (c .before .before .before .before .before .before .before .before .before .before .before .before .before .before .before .before .before .before .cost-of .ensures) (bills ys _ f q (c .before .before .before .before .before .before .before .before .before .before .before .before .before .before .before .before .before .before .before .before .before .before .before .before .before .pre .1) (c .before .before .before .before .before .before .before .before .before .before .before .before .before .before .before .before .before .charged .ensures))
+returns c = λ k ys f q. claims-valid _ _ _ _ _ _ f (c .before .before .before .before .before .before .before .before .before .before .before .before .before .before .before .before .before .before .before .before .before .before .before .before .before .args .sub) _ _ _ _ _ _ _ (c .before .before .before .before .before .before .before .before .before .before .before .admit .ensures .0) (c .before .before .before .before .before .before .before .before .before .before .before .admit .ensures .1 .0) (c .before .before .before .before .before .before .before .before .before .before .before .admit .ensures .1 .1) (admit-charges _ _ _ _ _ _ _ _) (c .before .before .before .before .before .before .before .before .before .before .before .before .before .before .before .before .before .before .cost-of .ensures) (bills ys _ f q (c .before .before .before .before .before .before .before .before .before .before .before .before .before .before .before .before .before .before .before .before .before .before .before .before .before .pre .1) (c .before .before .before .before .before .before .before .before .before .before .before .before .before .before .before .before .before .charged .ensures))
 
 pub valid-spec : {M : Type 1} → statement M
 valid-spec =
