@@ -80,6 +80,14 @@ in-order : stateOf (1 ∷ 2 ∷ 3 ∷ 4 ∷ 5 ∷ 6 ∷ 7 ∷ 8 ∷ 9 ∷ 10 ∷
 unfolding stateOf configOf countsOf sumsOf passOf
 in-order = refl
 
+-- a pass that was read from them, open or not
+module _ (l : List ℕ) {p : Pass} (e : p ≡ passOf l) where
+  pub room-open : p .«open» ≡ true → _≡_ {A = ℕ} 2 (pick (passOf l .«open») 2 21)
+  room-open h = rw (← e, h)
+
+  pub room-closed : p .«open» ≡ false → _≡_ {A = ℕ} 21 (pick (passOf l .«open») 2 21)
+  room-closed h = rw (← e, h)
+
 -- how many ids the last changing call wrote
 abbrev pub writtenAt : List ℕ → ℕ
 writtenAt l = getD l 24 0

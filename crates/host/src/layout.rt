@@ -11,6 +11,7 @@ use pool_types::Submission;
 use pool_types::Sums;
 use pool_types::Verdict;
 use returns::UnconfirmedTx;
+use store::unfit;
 use words::ids::Id;
 use words::ids::put_id;
 ghost use mathlib.Core.Path.{_≡_};
@@ -135,6 +136,27 @@ pub fn load_state(s: &[u64]) -> Mempool
         sums,
         pass,
     }
+}
+
+// What too few words of another list are answered with: an open pass is named first here too, ..
+pub fn too_few(s: &[u64]) -> u64
+    requires { ⌜ 25 ≤ length (now s) ⌝ }
+    ensures { λ r. ⌜ r ≡ pick (passOf (now (s .entry)) .«open») 20 1 ⌝ }
+{
+    let pass = load_pass(s);
+    unfit(pass.open)
+}
+
+// .. and that there is none before an answer buffer that is too short for an id.
+pub fn no_room(s: &[u64]) -> u64
+    requires { ⌜ 25 ≤ length (now s) ⌝ }
+    ensures { λ r. ⌜ r ≡ pick (passOf (now (s .entry)) .«open») 2 21 ⌝ }
+{
+    let pass = load_pass(s);
+    if pass.open {
+        return 2;
+    }
+    21
 }
 
 // What a submission changes: the counts, ..

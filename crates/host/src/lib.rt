@@ -96,12 +96,13 @@ use crate::layout::load_state;
 use crate::layout::load_submission;
 use crate::layout::store_left;
 use crate::layout::strategy_of;
+use crate::layout::too_few;
 use entries::fields::entries_room;
 use entries::table::Place;
 use entries::table::find_entry;
 use mempool::start;
 use pool_types::StartOutcome;
-use process::process;
+use process::flat::process_words;
 use weight::fee_per_factor;
 use words::ids::Id;
 ghost use mathlib.Core.Path.{_≡_};
@@ -196,7 +197,7 @@ fn submit(
 {
     let mempool = load_state(state);
     let submission = load_submission(sub);
-    let processed = process(
+    let processed = process_words(
         entries,
         boxes,
         cache,
@@ -235,7 +236,7 @@ pub extern "C" fn gunthyd_process(
         return 1;
     }
     if sub.len() < SUBMISSION_WORDS {
-        return 1;
+        return too_few(state);
     }
     submit(
         entries,
