@@ -10,7 +10,7 @@ use pool_types::Source;
 use pool_types::Submission;
 use pool_types::Verdict;
 use process::Processed;
-use process::process_words;
+use process::flat::process_words;
 use replies::pieces::text;
 use replies::replaced;
 use replies::with_id;
