@@ -6,3 +6,4 @@ pub mod Promises
 pub mod Kept
 pub mod Run
 pub mod Steps
+pub mod Theorem
