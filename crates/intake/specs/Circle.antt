@@ -4,15 +4,27 @@ use mathlib.Core.Path.{_≡_, refl, sym, ap, _∙_}
 use mathlib.Core.Bool.{Bool, true, false}
 use mathlib.Core.List.{List, [], _∷_}
 use native.Mathlib.Omega.{arith}
-use native.Mathlib.Nat.{le-of-suc-le-suc}
+use native.Mathlib.Nat.{add-zero, mod-add-mod, le-of-suc-le-suc}
 use lib.Dec.{ltb}
 use lib.ListN.{length, getD}
 use borrow.Author.Tests.{ltb-true, ltb-false}
 use Rattle.words.specs.Lists.{pick}
-use Rattle.words.specs.Rows.{tab}
+use Rattle.words.specs.Rows.{tab, tab-ext}
 use Rattle.intake.specs.declared.lines.Next.{Next}
 use Rattle.intake.specs.declared.lines.Next.the-variants.{Line, NoLine}
-use Rattle.intake.specs.Queue.{circle, firstHeld}
+use Rattle.intake.specs.Queue.{lines-from, circle, firstHeld}
+
+-- the circle, line by line
+lines-from-is : (i n : ℕ) → lines-from (i % 256) n ≡ tab (λ j. (i + j) % 256) n
+lines-from-is i zero = refl
+lines-from-is i (suc n) =
+    λ k. ap (λ (z : ℕ). z % 256) (sym (add-zero i)) k
+    ∷ (ap (λ (z : ℕ). lines-from z n) (mod-add-mod i 256 1) ∙ lines-from-is (i + 1) n
+    ∙ tab-ext (λ j. (i + 1 + j) % 256) (λ j. (i + suc j) % 256) n (λ j h. omega arith)) k
+
+pub circle-is : (s : ℕ) → circle s ≡ tab (λ j. (s + 1 + j) % 256) 256
+unfolding circle
+circle-is s = lines-from-is (s + 1) 256
 
 -- line i is the one at index j, and holds some; those before it are empty
 record Hit (ls : List (List ℕ)) (f : ℕ → ℕ) (n i : ℕ) : Type 0 where
@@ -70,11 +82,10 @@ pub record NextIs (ls : List (List ℕ)) (s i : ℕ) : Type 0 where
 
 module _ (ls : List (List ℕ)) (s : ℕ) (sb : s < 256) where
   pub next-is : (i : ℕ) → firstHeld ls (circle s) ≡ Line i → NextIs ls s i
-  unfolding circle
   next-is i e = record { below = omega (arith, y .is); some = y .some; nearest = λ k kb some. go k kb some (ltb (between s k) (y .at)) refl }
     where
       y : Hit ls (λ j. (s + 1 + j) % 256) 256 i
-      y = hit ls (λ j. (s + 1 + j) % 256) 256 i e
+      y = hit ls (λ j. (s + 1 + j) % 256) 256 i (rw circle-is at e)
 
       at-is : between s i ≡ y .at
       at-is = omega (arith, y .is, y .within)
@@ -86,5 +97,4 @@ module _ (ls : List (List ℕ)) (s : ℕ) (sb : s < 256) where
       go k kb some false t = omega (arith, at-is, ltb-false (between s k) (y .at) t)
 
   pub none-held : firstHeld ls (circle s) ≡ NoLine → (k : ℕ) → k < 256 → length (getD ls k []) ≡ 0
-  unfolding circle
-  none-held e k kb = rw (reached s k sb kb) at (missed ls (λ j. (s + 1 + j) % 256) 256 e (between s k) (omega arith))
+  none-held e k kb = rw (reached s k sb kb) at (missed ls (λ j. (s + 1 + j) % 256) 256 (rw circle-is at e) (between s k) (omega arith))

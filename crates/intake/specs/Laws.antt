@@ -14,6 +14,7 @@ use Rattle.words.specs.Lists.{pick, yes, no}
 use Rattle.words.specs.Rows.{tab, length-tab, getD-tab, tab-ext, tab-add}
 use Rattle.intake.specs.declared.lines.Next.the-variants.{Line, NoLine}
 use Rattle.intake.specs.Queue.{circle, firstHeld}
+use Rattle.intake.specs.Circle.{circle-is}
 use Rattle.intake.specs.Words.{Room, InQueue, place, headOf, tailOf, heldOf, lineOf, linesOf, lastOf, Appended, Taken}
 
 -- ---- counts that wrap at 2^32, of any value
@@ -165,12 +166,10 @@ pub held-at : (l : List ℕ) (i : ℕ) → i < 256 → length (getD (linesOf l) 
 held-at l i h = ap length (lines-at l i h) ∙ length-line l i
 
 pub length-circle : (s : ℕ) → length (circle s) ≡ 256
-unfolding circle
-length-circle s = length-tab (λ k. (s + 1 + k) % 256) 256
+length-circle s = ap length (circle-is s) ∙ length-tab {A = ℕ} (λ k. (s + 1 + k) % 256) 256
 
 pub circle-at : (s j : ℕ) → j < 256 → getD (circle s) j 0 ≡ (s + 1 + j) % 256
-unfolding circle
-circle-at s j h = getD-tab (λ k. (s + 1 + k) % 256) 256 j 0 h
+circle-at s j h = ap (λ (z : List ℕ). getD z j 0) (circle-is s) ∙ getD-tab {A = ℕ} (λ k. (s + 1 + k) % 256) 256 j 0 h
 
 -- what is left of the search gives what the whole gives
 pub record Searched (l : List ℕ) (s j : ℕ) : Type 0 where

@@ -1,5 +1,5 @@
 -- Document 02, "Ask 11. Fair intake", as lists: what a queue is, and what put and turn make of it. Nothing here knows of words.
-use Prim.Native.Nat.{ℕ, _+_, _%_}
+use Prim.Native.Nat.{ℕ, zero, suc, _+_, _%_}
 use mathlib.Core.Path.{_≡_, refl}
 use mathlib.Core.Bool.{Bool, true, false}
 use mathlib.Core.List.{List, [], _∷_, _++_}
@@ -47,9 +47,14 @@ put q i x = pick (noRoom q i) (afterPut q (Refused 32)) (afterPut (queue (set (q
 
 -- ---- turn
 
+-- "in circular order": n lines from line i on
+abbrev pub lines-from : ℕ → ℕ → List ℕ
+lines-from i zero = []
+lines-from i (suc n) = i ∷ lines-from ((i + 1) % 256) n
+
 -- "in circular order after the one served last": s + 1, .., 255, 0, .., s
 unfoldable pub circle : ℕ → List ℕ
-circle s = tab (λ j. (s + 1 + j) % 256) 256
+circle s = lines-from ((s + 1) % 256) 256
 
 -- the first of these lines that is not empty
 abbrev pub firstHeld : List (List ℕ) → List ℕ → Next

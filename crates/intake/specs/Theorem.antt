@@ -24,7 +24,7 @@ use Rattle.intake.specs.Run.{Event, Puts, Turns, Empty, Run, begin, puts
 
 -- ---- in the order stored, once each
 
-run-room : {h : List Event} {m : List ℕ} → Run h m → Room m
+pub run-room : {h : List Event} {m : List ℕ} → Run h m → Room m
 run-room (begin e) = e .room
 run-room (puts r i x o p) = omega (arith, run-room r, p .outside .size)
 run-room (turns r o p) = omega (arith, run-room r, p .outside .size)
