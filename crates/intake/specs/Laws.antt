@@ -152,7 +152,7 @@ taken l i q some =
       rest = drop-set-lt 4609 l (i * 18) v (omega arith);
     }
 
-pub taken-at : (l : List ℕ) (i h p w : ℕ) → InQueue l i → 0 < heldOf l i → h ≡ headOf l i → p ≡ place i h → w ≡ (h + 1) % 4294967296
+pub taken-at : (l : List ℕ) (i h p w : ℕ) → InQueue l i → 0 < heldOf l i → h ≡ headOf l i → p ≡ place i (headOf l i) → w ≡ (h + 1) % 4294967296
     → Taken l i (getD l p 0) (set l (i * 18) w)
 taken-at l i h p w q some eh ep ew = rw (ew, ep, eh) (taken l i q some)
 

@@ -9,3 +9,4 @@ pub mod Steps
 pub mod Theorem
 pub mod Played
 pub mod Reached
+pub mod Exports

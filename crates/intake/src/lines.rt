@@ -83,6 +83,14 @@ pub fn append(queue: &mut [u64], line: usize, handle: u64)
     queue[line * LINE_WORDS + 1] = (tail + 1) % WRAP;
 }
 
+// The word in which a line has its oldest handle.
+fn oldest_place(queue: &[u64], line: usize) -> usize
+    requires { ⌜ InQueue (now queue) line ⌝ }
+    ensures { λ r. ⌜ r ≡ place line (headOf (now (queue .entry)) line) ⌝ }
+{
+    place_of(line, head_of(queue, line))
+}
+
 // Hands out the oldest handle of a line that holds one.
 pub fn take(queue: &mut [u64], line: usize) -> u64
     requires { ⌜ InQueue (now queue) line ⌝ }
@@ -90,7 +98,7 @@ pub fn take(queue: &mut [u64], line: usize) -> u64
     ensures { λ r. ⌜ Taken (now (queue .entry)) line r (now (queue .exit)) ⌝ }
 {
     let head = head_of(queue, line);
-    let place = place_of(line, head);
+    let place = oldest_place(queue, line);
     let handle = queue[place];
     queue[line * LINE_WORDS] = (head + 1) % WRAP;
     handle

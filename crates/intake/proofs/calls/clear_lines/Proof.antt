@@ -1,3 +1,4 @@
+-- `calls::clear_lines` meets its contract. The loop's invariant: the lines below i have head and tail 0. Assumes nothing.
 use Prim.Native.Nat.{_≤_, _-_}
 use mathlib.Core.Path.{_≡_}
 use native.Mathlib.Omega.{arith}
@@ -6,8 +7,6 @@ use Rattle.intake.specs.Promises.{Cleared}
 use Rattle.intake.specs.Kept.{cleared-none, cleared-more}
 use Rattle.intake.proofs.calls.clear_lines.Statement.{statement}
 use Rattle.intake.proofs.calls.clear_lines.Tie as tie
-use Rattle.intake.proofs.calls.clear_lines.Reads as reads
-use Rattle.intake.proofs.calls.clear_lines.Lts as lts
 
 abbrev Inv-loop : tie.InvT-loop
 Inv-loop queue₀ i₀ queue i = (i ≤ 256) × Cleared queue₀ queue i
@@ -15,55 +14,42 @@ Inv-loop queue₀ i₀ queue i = (i ≤ 256) × Cleared queue₀ queue i
 abbrev μ-loop : tie.MeasureT-loop
 μ-loop queue₀ i₀ queue i = 256 - i
 
--- src/calls.rt:50:5
 loop-holds : tie.Need-loop-holds Inv-loop μ-loop
 loop-holds c = (omega arith, cleared-none _)
 
--- src/calls.rt:51:15
 mul-queue : tie.Need-mul-queue Inv-loop μ-loop
 mul-queue c = omega arith
 
--- src/calls.rt:51:9
 mul-queue-2 : tie.Need-mul-queue-2 Inv-loop μ-loop
 mul-queue-2 c = omega arith
 
--- src/calls.rt:51:9
 slice-write-queue : tie.Need-slice-write-queue Inv-loop μ-loop
 slice-write-queue c = omega (arith, c .before .loop .inv .1 .outside .size)
 
--- src/calls.rt:52:15
 mul-queue-3 : tie.Need-mul-queue-3 Inv-loop μ-loop
 mul-queue-3 c = omega arith
 
--- src/calls.rt:52:15
 add-queue : tie.Need-add-queue Inv-loop μ-loop
 add-queue c = omega arith
 
--- src/calls.rt:52:9
 mul-queue-4 : tie.Need-mul-queue-4 Inv-loop μ-loop
 mul-queue-4 c = omega arith
 
--- src/calls.rt:52:9
 slice-write-queue-2 : tie.Need-slice-write-queue-2 Inv-loop μ-loop
 slice-write-queue-2 c = simp length-set (omega (arith, c .before .loop .inv .1 .outside .size))
 
--- src/calls.rt:53:9
 add-i : tie.Need-add-i Inv-loop μ-loop
 add-i c = omega arith
 
--- src/calls.rt:50:5
 loop-less : tie.Need-loop-less Inv-loop μ-loop
 loop-less c = omega arith
 
--- src/calls.rt:50:5
 loop-again : tie.Need-loop-again Inv-loop μ-loop
 loop-again c = (omega arith, cleared-more _ _ _ (c .before .before .pre) (omega arith) (c .before .loop .inv .1))
 
--- src/calls.rt:45:1
 same-length : tie.Need-same-length Inv-loop μ-loop
 same-length c = c .before .loop .inv .1 .outside .size
 
--- src/calls.rt:45:1
 returns : tie.Need-returns Inv-loop μ-loop
 returns c = let e : c .before .loop .i ≡ 256 = omega arith in rw e at (c .before .loop .inv .1)
 

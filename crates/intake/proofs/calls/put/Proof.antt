@@ -1,42 +1,31 @@
+-- `calls::put` meets its contract: too few words, a line above 255, a full line, or a handle stored. Assumes nothing.
 use native.Mathlib.Omega.{arith}
 use Rattle.intake.specs.Kept.{put-short, put-high, put-full, put-stored}
 use borrow.Author.Needs.{needs}
 use Rattle.intake.proofs.calls.put.Statement.{statement}
 use Rattle.intake.proofs.calls.put.Tie as tie
-use Rattle.intake.proofs.calls.put.Reads as reads
-use Rattle.intake.proofs.calls.put.Lts as lts
-use Rattle.intake.proofs.lines.append.Reads as append-reads
-use Rattle.intake.proofs.lines.held.Reads as held-reads
 
--- src/calls.rt:74:9
 returns : tie.Need-returns
 returns c = put-short _ _ _ (omega arith)
 
--- src/calls.rt:77:9
 returns-2 : tie.Need-returns-2
 returns-2 c = put-high _ _ _ (omega arith) (omega arith)
 
--- src/calls.rt:80:14
 held-requires : tie.Need-held-requires
 held-requires c κs = search needs
 
--- src/calls.rt:81:9
 same-length : tie.Need-same-length
 same-length c = search needs
 
--- src/calls.rt:81:9
 returns-3 : tie.Need-returns-3
 returns-3 c = put-full _ _ _ (omega arith) (omega arith) (omega arith)
 
--- src/calls.rt:83:5
 append-requires : tie.Need-append-requires
 append-requires c κs = search needs
 
--- src/calls.rt:70:1
 same-length-2 : tie.Need-same-length-2
 same-length-2 c = search needs
 
--- src/calls.rt:70:1
 returns-4 : tie.Need-returns-4
 returns-4 c = put-stored _ _ _ (omega arith) _ (omega arith) (omega arith) (c .before .before .append .ensures)
 

@@ -1,32 +1,24 @@
+-- `calls::serve` meets its contract: a line's oldest handle, or none. Assumes nothing.
 use Rattle.intake.specs.Kept.{able-line, given-line, given-none}
 use borrow.Author.Needs.{needs}
 use Rattle.intake.proofs.calls.serve.Statement.{statement}
 use Rattle.intake.proofs.calls.serve.Tie as tie
-use Rattle.intake.proofs.calls.serve.Reads as reads
-use Rattle.intake.proofs.calls.serve.Lts as lts
-use Rattle.intake.proofs.lines.take.Reads as take-reads
 
--- src/calls.rt:93:20
 enum-known-next : tie.Need-enum-known-next
 enum-known-next c = search needs
 
--- src/calls.rt:93:56
 take-requires : tie.Need-take-requires
 take-requires c κs = able-line _ _ _ (c .before .before .next .given .1) (c .before .before .before .before .before .pre)
 
--- src/calls.rt:94:25
 enum-told : tie.Need-enum-told
 enum-told c = search needs
 
--- src/calls.rt:88:1
 same-length : tie.Need-same-length
 same-length c = search needs
 
--- src/calls.rt:88:1
 returns : tie.Need-returns
 returns c = given-line _ _ _ _ _ (c .before .before .before .before .before .next .given .1) (c .before .before .take .ensures)
 
--- src/calls.rt:88:1
 returns-2 : tie.Need-returns-2
 returns-2 c = given-none _ _ (c .enum-told .given .1)
 
