@@ -10,3 +10,4 @@ pub mod Theorem
 pub mod Played
 pub mod Reached
 pub mod Exports
+pub mod Kinds
