@@ -105,4 +105,6 @@ fn main() {
     for pooled in [1_000, 4_000] {
         others::fees(pooled);
     }
+
+    intake_oracle::bench::print();
 }
