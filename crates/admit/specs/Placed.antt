@@ -55,17 +55,25 @@ module _ (P : Outcome → Type 0) (room : ℕ) (lost : (n : ℕ) → n ≤ room 
   settled-outcome capacity [] t = in-place
   settled-outcome capacity (k ∷ ks) t = replaced _ (omega arith)
 
-  pub outcome-of : (visits : ℕ) (g : MempoolConfig) (t : Tables) (a : Submission) (c : ℕ) (ins outs : List ℕ) → P (refused 10 0) → P (admitSpec visits room g t a c ins outs .outcome)
+  pub admit-outcome : (visits : ℕ) (g : MempoolConfig) (t : Tables) (a : Submission) (c : ℕ) (ins outs : List ℕ) → P (refused 10 0) → P (admitSpec visits room g t a c ins outs .outcome)
   unfolding admitSpec contested seated
-  outcome-of visits g t a c ins outs low =
+  admit-outcome visits g t a c ins outs low =
       picked (λ d. P (d .outcome)) (ltb (feeOf outs) (g .«min_fee»)) _ _ low
       (picked (λ d. P (d .outcome)) (loses _ _ (t .entries)) _ _ (lost _ (omega arith))
       (picked (λ d. P (d .outcome)) (crowded (g .capacity) _ _) _ _ full (settled-outcome (g .capacity) _ _)))
 
+-- 'verdict needed' is none of them
+pub answered : (visits room : ℕ) (g : MempoolConfig) (t : Tables) (a : Submission) (c : ℕ) (ins outs : List ℕ) → admitSpec visits room g t a c ins outs .outcome ≡ needed → ⊥
+answered visits room g t a c ins outs =
+    admit-outcome (λ o. o ≡ needed → ⊥) room (λ n h q. never cc) (λ q. never cc) (λ q. never cc) (λ n h q. never cc) visits g t a c ins outs (λ q. never cc)
+  where
+    never : _≡_ {A = ℕ} 0 1 → ⊥
+    never z = omega arith
+
 pub told : (visits room : ℕ) (g : MempoolConfig) (t : Tables) (a : Submission) (c : ℕ) (ins outs : List ℕ) → writtenOf (admitSpec visits room g t a c ins outs .outcome) ≤ room
 unfolding writtenOf
 told visits room g t a c ins outs =
-    outcome-of (λ o. writtenOf o ≤ room) room (λ n h. h) (omega arith) (omega arith) (λ n h. h) visits g t a c ins outs (omega arith)
+    admit-outcome (λ o. writtenOf o ≤ room) room (λ n h. h) (omega arith) (omega arith) (λ n h. h) visits g t a c ins outs (omega arith)
 
 -- ---- conflicts are distinct
 

@@ -4,6 +4,7 @@ use crate::evictions::Evicted;
 use crate::evictions::evict_to;
 use crate::evictions::is_crowded;
 use crate::evictions::lowest_or;
+use answers::places;
 use answers::write_ids;
 use arguments::FeeSum;
 use arguments::count_records;
@@ -213,7 +214,7 @@ fn seat(
             outcome: ProcessingOutcome::Declined(30),
         };
     }
-    let room = answer.len() / 4;
+    let room = places(answer);
     write_ids(answer, 0, list, k);
     let left = enter(
         entries,
@@ -299,7 +300,8 @@ fn contest(
     let mut list = [0u64; CONFLICT_WORDS];
     let k = conflicts(boxes, counts.records, inputs, 5, &mut list);
     if is_loser(entries, counts.pooled, e.base, &list, k) {
-        let told = smaller(answer.len() / 4, k);
+        let room = places(answer);
+        let told = smaller(room, k);
         write_ids(answer, 0, &list, k);
         return Admission {
             counts,

@@ -72,7 +72,7 @@ struct Seen {
 }
 
 // What goes from one confirmation to the next: the refusal, or 0; how many ids the cache holds; the next transaction of the block and its first input;
-// and what the last one that was pooled has to be recorded with.
+// what the steps so far left; and whether one is to be recorded, with what.
 struct Run {
     code: u64,
     cached: usize,

@@ -67,64 +67,64 @@ use Rattle.console.specs.declared.Told.{Told}
 
 -- ---- a submission's outcome says how many ids it wrote
 
-record SaysAdmitted (d : Admitted) : Type 0 where
-  is : writtenIn (d .outcome) ≡ length (d .written)
+record SaysAdmitted (room : ℕ) (d : Admitted) : Type 0 where
+  is : writtenIn (d .outcome) ≡ min room (length (d .written))
 
-record SaysResult (r : Result) : Type 0 where
-  is : writtenIn (r .outcome) ≡ length (r .written)
+record SaysResult (room : ℕ) (r : Result) : Type 0 where
+  is : writtenIn (r .outcome) ≡ min room (length (r .written))
 
-picked : (t : Bool) (x y : Admitted) → SaysAdmitted x → SaysAdmitted y → SaysAdmitted (pick t x y)
+picked : {room : ℕ} (t : Bool) (x y : Admitted) → SaysAdmitted room x → SaysAdmitted room y → SaysAdmitted room (pick t x y)
 picked true x y p q = p
 picked false x y p q = q
 
-stopped : (n : ℕ) (t : Tables) → SaysAdmitted (record { outcome = refused n 0; tables = t; written = [] })
+stopped : {room : ℕ} (n : ℕ) (t : Tables) → SaysAdmitted room (record { outcome = refused n 0; tables = t; written = [] })
 unfolding writtenIn
-stopped n t = record { is = refl }
+stopped n t = record { is = omega arith }
 
-lost : (ks : List ℕ) (t : Tables) → SaysAdmitted (record { outcome = refused 29 (length ks); tables = t; written = ks })
+lost : (room : ℕ) (ks : List ℕ) (t : Tables) → SaysAdmitted room (record { outcome = refused 29 (min room (length ks)); tables = t; written = ks })
 unfolding writtenIn
-lost ks t = record { is = refl }
+lost room ks t = record { is = refl }
 
-says-settled : (capacity : ℕ) (ks : List ℕ) (t : Tables) → SaysAdmitted (settled capacity ks t)
+says-settled : (room capacity : ℕ) (ks : List ℕ) (t : Tables) → SaysAdmitted room (settled room capacity ks t)
 unfolding settled writtenIn
-says-settled capacity [] t = record { is = refl }
-says-settled capacity (k ∷ ks) t = record { is = sym (length-append (k ∷ ks) (evicted capacity t)) }
+says-settled room capacity [] t = record { is = omega arith }
+says-settled room capacity (k ∷ ks) t = record { is = ap (min room) (sym (length-append (k ∷ ks) (evicted capacity t))) }
 
-module _ (visits capacity : ℕ) (e : Entry) (ins outs : List ℕ) where
-  says-seated : (ks : List ℕ) (t : Tables) → SaysAdmitted (seated visits capacity e ins outs ks t)
+module _ (visits room capacity : ℕ) (e : Entry) (ins outs : List ℕ) where
+  says-seated : (ks : List ℕ) (t : Tables) → SaysAdmitted room (seated visits room capacity e ins outs ks t)
   unfolding seated
   says-seated ks t =
-      picked (crowded capacity (e .base) (t .entries)) (record { outcome = refused 30 0; tables = t; written = [] }) (settled capacity ks (joined visits e ins outs t))
-      (stopped 30 t) (says-settled capacity ks (joined visits e ins outs t))
+      picked (crowded capacity (e .base) (t .entries)) (record { outcome = refused 30 0; tables = t; written = [] }) (settled room capacity ks (joined visits e ins outs t))
+      (stopped 30 t) (says-settled room capacity ks (joined visits e ins outs t))
 
-  says-contested : (ks : List ℕ) (t : Tables) → SaysAdmitted (contested visits capacity e ins outs ks t)
+  says-contested : (ks : List ℕ) (t : Tables) → SaysAdmitted room (contested visits room capacity e ins outs ks t)
   unfolding contested
   says-contested ks t =
-      picked (loses (e .base) ks (t .entries)) (record { outcome = refused 29 (length ks); tables = t; written = ks }) (seated visits capacity e ins outs ks (removeAll ks t))
-      (lost ks t) (says-seated ks (removeAll ks t))
+      picked (loses (e .base) ks (t .entries)) (record { outcome = refused 29 (min room (length ks)); tables = t; written = ks }) (seated visits room capacity e ins outs ks (removeAll ks t))
+      (lost room ks t) (says-seated ks (removeAll ks t))
 
-says-admitted : (visits : ℕ) (g : MempoolConfig) (t : Tables) (a : Submission) (c : ℕ) (ins outs : List ℕ) → SaysAdmitted (admitSpec visits g t a c ins outs)
+says-admitted : (visits room : ℕ) (g : MempoolConfig) (t : Tables) (a : Submission) (c : ℕ) (ins outs : List ℕ) → SaysAdmitted room (admitSpec visits room g t a c ins outs)
 unfolding admitSpec
-says-admitted visits g t a c ins outs =
+says-admitted visits room g t a c ins outs =
     picked (ltb (feeOf outs) (g .«min_fee»)) (record { outcome = refused 10 0; tables = t; written = [] }) _
-    (stopped 10 t) (says-contested visits (g .capacity) (newcomer a c (baseOf g a c outs) ins outs) ins outs (conflicts (index false (t .boxes)) (idsOf 5 ins)) t)
+    (stopped 10 t) (says-contested visits room (g .capacity) (newcomer a c (baseOf g a c outs) ins outs) ins outs (conflicts (index false (t .boxes)) (idsOf 5 ins)) t)
 
-says-judged : (visits : ℕ) (st : Mempool) (w : World) (a : Submission) (ins outs : List ℕ) (v : Verdict) → SaysResult (judged visits st w a ins outs v)
+says-judged : (visits room : ℕ) (st : Mempool) (w : World) (a : Submission) (ins outs : List ℕ) (v : Verdict) → SaysResult room (judged visits room st w a ins outs v)
 unfolding judged writtenIn
-says-judged visits st w a ins outs Absent = record { is = refl }
-says-judged visits st w a ins outs Invalid = record { is = refl }
-says-judged visits st w a ins outs (Valid c) = let h = says-admitted visits (st .config) (w .tables) a c ins outs in record { is = h .is }
+says-judged visits room st w a ins outs Absent = record { is = omega arith }
+says-judged visits room st w a ins outs Invalid = record { is = omega arith }
+says-judged visits room st w a ins outs (Valid c) = let h = says-admitted visits room (st .config) (w .tables) a c ins outs in record { is = h .is }
 
-unless : (n : ℕ) (r : Result) (w : World) (t : Bool) → SaysResult r → SaysResult (pick t r (unchanged (refused n 0) w))
+unless : (room n : ℕ) (r : Result) (w : World) (t : Bool) → SaysResult room r → SaysResult room (pick t r (unchanged (refused n 0) w))
 unfolding writtenIn
-unless n r w true q = q
-unless n r w false q = record { is = refl }
+unless room n r w true q = q
+unless room n r w false q = record { is = omega arith }
 
-pub says-processed : (m : Limits) (st : Mempool) (w : World) (room : ℕ) (a : Submission) (ins outs : List ℕ) → writtenIn (processed m st w room a ins outs .outcome) ≡ length (processed m st w room a ins outs .written)
+pub says-processed : (m : Limits) (st : Mempool) (w : World) (room : ℕ) (a : Submission) (ins outs : List ℕ) → writtenIn (processed m st w room a ins outs .outcome) ≡ min room (length (processed m st w room a ins outs .written))
 unfolding processed
 says-processed m st w room a ins outs =
     let n = refusalOf (m .inputs) (m .entries) (m .boxes) st room (w .tables) (w .cache) (standingOf (a .source) (w .peers)) a ins outs in
-    (unless n (judged (m .visits) st w a ins outs (a .verdict)) w (eqb n 0) (says-judged (m .visits) st w a ins outs (a .verdict))) .is
+    (unless room n (judged (m .visits) room st w a ins outs (a .verdict)) w (eqb n 0) (says-judged (m .visits) room st w a ins outs (a .verdict))) .is
 
 -- ---- of the ids written, the buffer holds those that it has places for
 
@@ -174,16 +174,16 @@ take-min n m l q = rw q (go (native.Mathlib.Decide.decLe n (length l)))
     go (no p) = let z : min n (length l) ≡ length l = omega (arith, p) in rw z (take-all (length l) l (omega arith) ∙ sym (take-all n l (omega (arith, p))))
 
 -- .. and is what is held of them then
-module _ (a a' ks : List ℕ) (n : Outcome) (y : writtenIn n ≡ length ks) (d : Wrote a a' 0 ks) {m : Mempool} {s : FeeStats} {text : List ℕ → List ℕ} {o₀ o : List ℕ} (t : Told) (w : ToldOf a' m s n text o₀ o t) where
+module _ (a a' ks : List ℕ) (n : Outcome) (y : writtenIn n ≡ min (length a / 4) (length ks)) (d : Wrote a a' 0 ks) {m : Mempool} {s : FeeStats} {text : List ℕ → List ℕ} {o₀ o : List ℕ} (t : Told) (w : ToldOf a' m s n text o₀ o t) where
   count-is : t .kept .written ≡ min (length ks) (countOf 4 a)
-  count-is = w .written ∙ rw (y, d .kept)
+  count-is = omega (arith, w .written, y, d .kept)
 
   held : idsTo 4 a' (t .kept .written) ≡ take (countOf 4 a) ks
   held = rw count-is (shown a a' ks (length ks) d refl)
 
 -- ---- a submission's line
 
-module _ (e b k p a e' b' k' p' a' : List ℕ) (h : Kept) (r : Processed) (s : Result) (d : Post (h .mempool) r e' b' k' (records p') a a' s) (y : writtenIn (s .outcome) ≡ length (s .written))
+module _ (e b k p a e' b' k' p' a' : List ℕ) (h : Kept) (r : Processed) (s : Result) (d : Post (h .mempool) r e' b' k' (records p') a a' s) (y : writtenIn (s .outcome) ≡ min (length a / 4) (length (s .written)))
     (x : ℕ) (o₀ o : List ℕ) (t : Told) (w : ToldOf a' (r .mempool) (h .stats) (processedOf (r .outcome)) (txText (processedOf (r .outcome)) x) o₀ o t) where
   held-processed : idsTo 4 a' (t .kept .written) ≡ take (countOf 4 a) (s .written)
   held-processed = held a a' (s .written) (processedOf (r .outcome)) (ap writtenIn (d .outcome) ∙ y) (d .wrote) t w
@@ -226,7 +226,7 @@ module _ (e b k p a e' b' k' a' : List ℕ) (h : Kept) (r : Applied) (s : BlockR
     (y : writtenIn (s .result .outcome) ≡ length (s .result .written)) (o₀ o : List ℕ) (t : Told) (w : ToldOf a' (r .mempool) (r .stats) (blockOf (r .outcome)) (removedText (blockOf (r .outcome))) o₀ o t) where
   held-removed : idsTo 4 a' (t .kept .written) ≡ s .result .written
   held-removed =
-      held a a' (s .result .written) (blockOf (r .outcome)) (ap writtenIn (d .outcome) ∙ y) (d .wrote) t w
+      held a a' (s .result .written) (blockOf (r .outcome)) (let z : writtenIn (blockOf (r .outcome)) ≡ length (s .result .written) = ap writtenIn (d .outcome) ∙ y in omega (arith, z, d .placed)) (d .wrote) t w
       ∙ take-all (countOf 4 a) (s .result .written) (d .placed)
 
   pub after-applied : After e' b' k' p a' o₀ o t (appliedLine e b k p a h s)

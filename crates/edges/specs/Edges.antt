@@ -15,7 +15,7 @@ use Rattle.pool_types.specs.declared.Submission.{Submission}
 use Rattle.pool_types.specs.declared.Source.the-variants.{Local}
 use Rattle.pool_types.specs.declared.Verdict.the-variants.{Absent}
 use Rattle.weight.specs.Weight.{feePerFactor}
-use Rattle.arguments.specs.Arguments.{biased, aheadOf}
+use Rattle.arguments.specs.Arguments.{maxInputs, biased, aheadOf}
 use Rattle.expiring_cache.specs.Cache.{Held, held}
 use Rattle.stats.specs.declared.FeeStats.{FeeStats}
 use Rattle.stats.specs.Stats.{fresh, confirmed, counted, binned, waitFor}
@@ -73,7 +73,7 @@ abbrev offered : Submission
 offered = record { time = 0; id = record { a = 0; b = 0; c = 0; d = 1 }; size = 0; preheader = 50; source = Local; verdict = Absent }
 
 abbrev stopsAt : ℕ → ℕ
-stopsAt n = listRefusal 5000 0 0 (record { entries = []; boxes = [] }) offered (replicate (n * 5) 1) []
+stopsAt n = listRefusal maxInputs 0 0 (record { entries = []; boxes = [] }) offered (replicate (n * 5) 1) []
 
 pub starred : List Row
 starred =

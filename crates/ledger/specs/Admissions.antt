@@ -114,26 +114,26 @@ module _ (g : MempoolConfig) (a : Submission) (c : ℕ) (ins outs : List ℕ) (v
     unfolding entersSubmission chargeFor
     admits-same = same-evict (g .capacity) _ _ in-book
 
-    settles : (js : List ℕ) → Settles (settled (g .capacity) js (joined visitCap e ins outs (removeAll ks t)))
+    settles : (room : ℕ) (js : List ℕ) → Settles (settled room (g .capacity) js (joined visitCap e ins outs (removeAll ks t)))
     unfolding settled hearsSubmission entersSubmission
-    settles [] = record { book = admits-same; rest = refl }
-    settles (j ∷ js) = record { book = admits-same; rest = refl }
+    settles room [] = record { book = admits-same; rest = refl }
+    settles room (j ∷ js) = record { book = admits-same; rest = refl }
 
     low : Settles (record { outcome = refused 10 0; tables = t; written = [] })
     unfolding hearsSubmission turnedAway chargeFor
     low = record { book = s; rest = refl }
 
-    lost : Settles (record { outcome = refused 29 (length ks); tables = t; written = ks })
+    lost : (n : ℕ) → Settles (record { outcome = refused 29 n; tables = t; written = ks })
     unfolding hearsSubmission turnedAway chargeFor
-    lost = record { book = s; rest = refl }
+    lost n = record { book = s; rest = refl }
 
     full : Settles (record { outcome = refused 30 0; tables = removeAll ks t; written = [] })
     unfolding hearsSubmission turnedAway chargeFor
     full = record { book = gone; rest = refl }
 
-    pub admission-same : Settles (admitSpec visitCap g t a c ins outs)
+    pub admission-same : (room : ℕ) → Settles (admitSpec visitCap room g t a c ins outs)
     unfolding admitSpec contested seated
-    admission-same =
+    admission-same room =
         either (ltb (feeOf outs) (g .«min_fee»)) _ _ low
-        (either (loses (e .base) ks (t .entries)) _ _ lost
-        (either (crowded (g .capacity) (e .base) (removeAll ks t .entries)) _ _ full (settles ks)))
+        (either (loses (e .base) ks (t .entries)) _ _ (lost _)
+        (either (crowded (g .capacity) (e .base) (removeAll ks t .entries)) _ _ full (settles room ks)))

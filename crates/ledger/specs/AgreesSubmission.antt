@@ -141,11 +141,11 @@ module _ (g : MempoolConfig) (bounds : Bounds g) (m : Moment) (l : Ledger) (s : 
       go (no x) z = omega (arith, x)
 
   module _ (p : Passed 5000 (m .entries) (m .boxes) st room at a ins outs) where
-    admits : (c : ℕ) (v : a .verdict ≡ Valid c) → Keeps g (admitted (admitSpec visitCap g (w .tables) a c ins outs) w a c .world) l (hearsSubmission g a ins outs (readingOf (admitSpec visitCap g (w .tables) a c ins outs .outcome)) l)
+    admits : (c : ℕ) (v : a .verdict ≡ Valid c) → Keeps g (admitted (admitSpec visitCap room g (w .tables) a c ins outs) w a c .world) l (hearsSubmission g a ins outs (readingOf (admitSpec visitCap room g (w .tables) a c ins outs .outcome)) l)
     unfolding chargeFor
     admits c v =
-        let d : Admitted = admitSpec visitCap g (w .tables) a c ins outs in
-        let z : Settles g a c ins outs v l d = admission-same g a c ins outs v l (w .tables) (s .world .book) (p .new) in
+        let d : Admitted = admitSpec visitCap room g (w .tables) a c ins outs in
+        let z : Settles g a c ins outs v l d = admission-same g a c ins outs v l (w .tables) (s .world .book) (p .new) room in
         let k : ℕ = costOf c (a .size) in
         let small : k < 2 ^ 32 = omega (arith, p .size, p .cost c v) in
         let q = same-charge (g .«cost_per_block») (g .«cost_per_peer_per_block») (bounds .block) (bounds .peer) (a .source) k small (s .world .charges) (s .world .fair) (below (a .source) (p .welcome)) in
@@ -155,7 +155,7 @@ module _ (g : MempoolConfig) (bounds : Bounds g) (m : Moment) (l : Ledger) (s : 
           given = ap (λ (x : Ledger). x .given) (z .rest);
         }
 
-    judges : (v : Verdict) → a .verdict ≡ v → Keeps g (judged visitCap st w a ins outs v .world) l (hearsSubmission g a ins outs (readingOf (judged visitCap st w a ins outs v .outcome)) l)
+    judges : (v : Verdict) → a .verdict ≡ v → Keeps g (judged visitCap room st w a ins outs v .world) l (hearsSubmission g a ins outs (readingOf (judged visitCap room st w a ins outs v .outcome)) l)
     unfolding judged hearsSubmission turnedAway
     judges Absent e = record { same = s .world; given = refl }
     judges Invalid e = record { same = record { book = s .world .book; charges = s .world .charges; fair = s .world .fair }; given = refl }
@@ -165,7 +165,7 @@ module _ (g : MempoolConfig) (bounds : Bounds g) (m : Moment) (l : Ledger) (s : 
   unfolding processed
   keeps = go (eqb n 0) refl
     where
-      go : (t : Bool) → eqb n 0 ≡ t → Keeps g (pick t (judged visitCap st w a ins outs (a .verdict)) (unchanged (refused n 0) w) .world) l (hearsSubmission g a ins outs (readingOf (pick t (judged visitCap st w a ins outs (a .verdict)) (unchanged (refused n 0) w) .outcome)) l)
+      go : (t : Bool) → eqb n 0 ≡ t → Keeps g (pick t (judged visitCap room st w a ins outs (a .verdict)) (unchanged (refused n 0) w) .world) l (hearsSubmission g a ins outs (readingOf (pick t (judged visitCap room st w a ins outs (a .verdict)) (unchanged (refused n 0) w) .outcome)) l)
       go true e = judges (passed 5000 (m .entries) (m .boxes) st room (w .cache) at a ins outs (fits-pool m (s .fits)) (eqb-true n 0 e)) (a .verdict) refl
       go false e = rw (quiet-same g a ins outs n l (refusal-quiet 5000 (entriesRoom (m .entries)) (boxesRoom (m .boxes)) room st (w .tables) (w .cache) at a ins outs)) (record { same = s .world; given = refl })
 

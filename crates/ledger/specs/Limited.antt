@@ -73,23 +73,23 @@ either : (t : Bool) (x y : Admitted) → Later (x .outcome) → Later (y .outcom
 either true x y p q = p
 either false x y p q = q
 
-settled-later : (capacity : ℕ) (js : List ℕ) (t : Tables) → Later (settled capacity js t .outcome)
+settled-later : (room capacity : ℕ) (js : List ℕ) (t : Tables) → Later (settled room capacity js t .outcome)
 unfolding settled
-settled-later capacity [] t = record { not-24 = refl; not-25 = refl; not-26 = refl }
-settled-later capacity (j ∷ js) t = record { not-24 = refl; not-25 = refl; not-26 = refl }
+settled-later room capacity [] t = record { not-24 = refl; not-25 = refl; not-26 = refl }
+settled-later room capacity (j ∷ js) t = record { not-24 = refl; not-25 = refl; not-26 = refl }
 
-admit-later : (visits : ℕ) (g : MempoolConfig) (t : Tables) (a : Submission) (c : ℕ) (ins outs : List ℕ) → Later (admitSpec visits g t a c ins outs .outcome)
+admit-later : (visits room : ℕ) (g : MempoolConfig) (t : Tables) (a : Submission) (c : ℕ) (ins outs : List ℕ) → Later (admitSpec visits room g t a c ins outs .outcome)
 unfolding admitSpec contested seated
-admit-later visits g t a c ins outs =
+admit-later visits room g t a c ins outs =
     either (ltb (feeOf outs) (g .«min_fee»)) _ _ (record { not-24 = refl; not-25 = refl; not-26 = refl })
     (either (loses _ _ (t .entries)) _ _ (record { not-24 = refl; not-25 = refl; not-26 = refl })
-    (either (crowded (g .capacity) _ _) _ _ (record { not-24 = refl; not-25 = refl; not-26 = refl }) (settled-later (g .capacity) _ _)))
+    (either (crowded (g .capacity) _ _) _ _ (record { not-24 = refl; not-25 = refl; not-26 = refl }) (settled-later room (g .capacity) _ _)))
 
-judged-later : (visits : ℕ) (st : Mempool) (w : World) (a : Submission) (ins outs : List ℕ) (v : Verdict) → Later (judged visits st w a ins outs v .outcome)
+judged-later : (visits room : ℕ) (st : Mempool) (w : World) (a : Submission) (ins outs : List ℕ) (v : Verdict) → Later (judged visits room st w a ins outs v .outcome)
 unfolding judged
-judged-later visits st w a ins outs Absent = record { not-24 = refl; not-25 = refl; not-26 = refl }
-judged-later visits st w a ins outs Invalid = record { not-24 = refl; not-25 = refl; not-26 = refl }
-judged-later visits st w a ins outs (Valid c) = admit-later visits (st .config) (w .tables) a c ins outs
+judged-later visits room st w a ins outs Absent = record { not-24 = refl; not-25 = refl; not-26 = refl }
+judged-later visits room st w a ins outs Invalid = record { not-24 = refl; not-25 = refl; not-26 = refl }
+judged-later visits room st w a ins outs (Valid c) = admit-later visits room (st .config) (w .tables) a c ins outs
 
 -- ---- the tests before 24: 0, or a number of theirs
 
@@ -174,13 +174,13 @@ module _ (g : MempoolConfig) (cs : List Charge) where
 module _ (m : Limits) (st : Mempool) (w : World) (room : ℕ) (a : Submission) (ins outs : List ℕ) (cs : List Charge) (s : SameCharges (w .sum) (w .peers) cs)
     (sum : st .sums .«interblock_cost» ≡ w .sum) (used : st .sums .peers ≡ length (w .peers)) (one : 1 ≤ st .config .«cost_per_peer_per_block») where
   abbrev J : Outcome
-  J = judged (m .visits) st w a ins outs (a .verdict) .outcome
+  J = judged (m .visits) room st w a ins outs (a .verdict) .outcome
 
   abbrev L : ℕ
   L = listRefusal (m .inputs) (m .entries) (m .boxes) (w .tables) a ins outs
 
   last : Later (pick (eqb L 0) J (refused L 0))
-  last = list-later (m .inputs) (m .entries) (m .boxes) (w .tables) a ins outs J (judged-later (m .visits) st w a ins outs (a .verdict))
+  last = list-later (m .inputs) (m .entries) (m .boxes) (w .tables) a ins outs J (judged-later (m .visits) room st w a ins outs (a .verdict))
 
   -- 24, 25 and 26 of a remote one, then the lists
   peers-limits : (from : Source)
@@ -215,6 +215,6 @@ module _ (m : Limits) (st : Mempool) (w : World) (room : ℕ) (a : Submission) (
   pub submission-limits : FailsExactly (st .config) (a .source) (readingOf (processed m st w room a ins outs .outcome)) cs
   unfolding processed refusalOf stateRefusal
   submission-limits =
-      rw (pick-outcome (refusalOf (m .inputs) (m .entries) (m .boxes) st room (w .tables) (w .cache) (standingOf (a .source) (w .peers)) a ins outs) (judged (m .visits) st w a ins outs (a .verdict)))
+      rw (pick-outcome (refusalOf (m .inputs) (m .entries) (m .boxes) st room (w .tables) (w .cache) (standingOf (a .source) (w .peers)) a ins outs) (judged (m .visits) room st w a ins outs (a .verdict)))
       (call-limits (callRefusal st room a ins outs) (call-early st room a ins outs) _
       (state-limits (held (st .config .«invalidation_ttl») (a .time) (idOf (a .id)) (w .cache)) (pooled (idOf (a .id)) (w .tables .entries))))

@@ -31,7 +31,7 @@ use Rattle.blocks.specs.Blocks.{settled as cleared}
 use Rattle.ledger.specs.Book.{txWeight}
 use Rattle.ledger.specs.Ledger.{Submit, Block, Heard, told, chargeFor, entersSubmission, turnedAway, hearsSubmission, mined, ledger}
 use Rattle.ledger.specs.Run.{worldAt, limitsAt, Step, Run, begin, call}
-use Rattle.ledger.specs.Theorem.{demand3}
+use Rattle.ledger.specs.Theorem.{start-begins, demand3}
 use Rattle.ledger.specs.WitnessStore.{i, small, plain, settings, stateOf, with, Stands, w0, w1, w2, w3, w4, w5, s0, s1, s2, s3, s4, s5}
 
 -- ---- the arguments: a transaction k of 1,024 bytes, of one input and one output, which is a fee
@@ -136,7 +136,7 @@ six = heard 4 Local 8 1 14 60 (refused 23 0) ∷ record { call = Block 0 txs ins
 
 run0 : Run settings [] (with w0)
 unfolding started sized accepted empty entriesRoom boxesRoom cacheRoom
-run0 = begin (with w0) refl (omega arith)
+run0 = begin (with w0) (start-begins (with w0) settings refl) (omega arith)
 
 pub run2 : Run settings two (with w2)
 run2 =

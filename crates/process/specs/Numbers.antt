@@ -27,7 +27,7 @@ use Rattle.indexes.specs.Resolved.{allResolved, submitted}
 use Rattle.pool.specs.Pool.{Tables, noRoom}
 use Rattle.checks.specs.Checks.{dear, remote, first, callRefusal, peerRefusal, stateRefusal, listRefusal, refusalOf}
 use Rattle.admit.specs.Admit.{admitSpec}
-use Rattle.admit.specs.Placed.{outcome-of}
+use Rattle.admit.specs.Placed.{admit-outcome}
 use Rattle.store.specs.World.{World, Result, unchanged}
 use Rattle.store.specs.Spares.{charging}
 use Rattle.process.specs.Process.{Limits, judged, unlessRefused, processed}
@@ -118,7 +118,7 @@ Ours o = ofSubmission o ≡ true
 -- .. of an admission
 admit-ours : (visits room : ℕ) (g : MempoolConfig) (t : Tables) (a : Submission) (c : ℕ) (ins outs : List ℕ) → Ours (admitSpec visits room g t a c ins outs .outcome)
 unfolding ofSubmission
-admit-ours visits room g t a c ins outs = outcome-of Ours room (λ n _. refl) refl refl (λ n _. refl) visits g t a c ins outs refl
+admit-ours visits room g t a c ins outs = admit-outcome Ours room (λ n _. refl) refl refl (λ n _. refl) visits g t a c ins outs refl
 
 judged-ours : (visits room : ℕ) (st : Mempool) (w : World) (a : Submission) (ins outs : List ℕ) (v : Verdict) → Ours (judged visits room st w a ins outs v .outcome)
 unfolding judged ofSubmission
@@ -161,7 +161,7 @@ never z = absurd (omega arith)
 
 pub admit-charges : (visits room : ℕ) (g : MempoolConfig) (t : Tables) (a : Submission) (c : ℕ) (ins outs : List ℕ) → Charging (admitSpec visits room g t a c ins outs .outcome)
 admit-charges visits room g t a c ins outs =
-    outcome-of Charging room
+    admit-outcome Charging room
     (λ n _. record { given = λ q. never cc; charges = λ j i q. let z : 29 ≡ j = cc in rw (← z) refl })
     (record { given = λ q. never cc; charges = λ j i q. let z : 30 ≡ j = cc in rw (← z) refl })
     (record { given = λ q. never cc; charges = λ j i q. never cc })

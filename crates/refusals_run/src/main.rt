@@ -11,7 +11,7 @@ use pool_types::Source;
 use pool_types::Submission;
 use pool_types::Sums;
 use pool_types::Verdict;
-use process::process;
+use process::flat::process_words;
 use words::ids::Id;
 
 // ---- the states
@@ -115,7 +115,7 @@ fn submit(
     if 8 < words {
         return mempool;
     }
-    let done = process(
+    let done = process_words(
         entries,
         boxes,
         &mut cache,

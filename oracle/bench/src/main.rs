@@ -96,10 +96,15 @@ fn main() {
     }
     println!("blocks and returns (both sides agree on every answer and on the pool that is left)");
     others::block(1_000);
+    for boxes in [true, false] {
+        others::hour(1_000, boxes);
+    }
     others::returns(1_000);
 
     println!("fee queries (both sides agree on every answer)");
     for pooled in [1_000, 4_000] {
         others::fees(pooled);
     }
+
+    intake_oracle::bench::print();
 }

@@ -15,6 +15,8 @@ use crate::time;
 const ROUNDS: usize = 40;
 /// Half an hour after the pool was filled, so that waits have a bin.
 const TIME: u64 = 1_800_000;
+/// The longest wait of those that are spread over an hour; it has no bin.
+const HOUR: u64 = 3_600_000;
 const BINS: u32 = 60;
 
 /// Nanoseconds of both, in a unit that suits them.
@@ -45,19 +47,47 @@ fn half(pooled: &[Tx]) -> Vec<(Id, Vec<Id>)> {
 pub fn block(pooled: usize) {
     let mut pools = Pools::new(CAPACITY);
     let txs = half(&pools.fill(pooled));
-    let (words, there) = (Block::of(&txs), confirmed(&txs));
+    confirm(&format!("a block of {} of {pooled} pooled", txs.len()), &pools, TIME, &txs);
+}
+
+/// A block of all so many pooled transactions, the lowest first, whose waits are spread over the hour, up to the hour itself.
+/// Without boxes, what a block costs beside the statistics is little: an id is looked up, and the last entry goes.
+pub fn hour(count: usize, boxes: bool) {
+    let mut pools = Pools::new(CAPACITY);
+    let mut given: Vec<Return> = (0..count).map(|_| back(&mut pools)).collect();
+    for (r, k) in given.iter_mut().zip(1..) {
+        r.created = HOUR - HOUR * k / count as u64;
+        if !boxes {
+            r.inputs.clear();
+            r.outputs.clear();
+        }
+        assert_eq!(pools.port.return_to_pool(&GivenBack::of(r)), DONE);
+        pools.rust.return_to_pool(vec![given_back(r)]);
+    }
+    given.sort_by_key(|r| r.fee);
+    let txs: Vec<(Id, Vec<Id>)> = given.into_iter().map(|r| (r.id, r.inputs)).collect();
+    let kind = if boxes { "waits over the hour" } else { "the same, no boxes" };
+    confirm(&format!("{count} confirmed, {kind}"), &pools, HOUR, &txs);
+}
+
+/// A block of these transactions, on copies of the pools.
+fn confirm(name: &str, pools: &Pools, time: u64, txs: &[(Id, Vec<Id>)]) {
+    let (words, there) = (Block::of(txs), confirmed(txs));
     let (mut rust, mut here) = (f64::MAX, f64::MAX);
     for _ in 0..ROUNDS {
         // Copies, outside of what is measured.
         let (mut port, mut pool) = (pools.port.clone(), pools.rust.deep_clone());
-        let answer = timed(&mut here, || port.apply_block_at(TIME, black_box(&words), FULL.answer_words));
+        let answer = timed(&mut here, || port.apply_block_at(time, black_box(&words), FULL.answer_words));
         assert_eq!(answer, APPLIED);
-        clock::set(TIME);
-        let removed = timed(&mut rust, || pool.apply_block_at(Instant::at(TIME), black_box(&there)));
+        clock::set(time);
+        let removed = timed(&mut rust, || pool.apply_block_at(Instant::at(time), black_box(&there)));
         assert_eq!(removed, port.ids());
         agree(&pool, &port);
+        for minutes in 0..=BINS {
+            assert_eq!(Ok(pool.recommended_fee(minutes, 1024)), port.recommended_fee(minutes, 1024));
+        }
     }
-    print(&format!("a block of {} of {pooled} pooled", txs.len()), rust, here);
+    print(name, rust, here);
 }
 
 /// So many returns to an empty pool, one by one.

@@ -17,10 +17,10 @@ enum-told-2 : tie.Need-enum-told-2
 enum-told-2 c = search needs
 
 returns : tie.Need-returns
-returns c = anew _ _ _ _ (c .before .before .before .start .ensures) _ _ (c .before .enum-told .given .1) (c .new .ensures)
+returns c = anew _ _ _ _ (c .before .before .before .start .ensures .0) _ _ (c .before .enum-told .given .1) (c .new .ensures)
 
 returns-2 : tie.Need-returns-2
-returns-2 c = stays _ _ _ _ (c .before .before .start .ensures) _ (c .enum-told2 .given .1)
+returns-2 c = stays _ _ _ _ (c .before .before .start .ensures .0) _ (c .enum-told2 .given .1)
 
 pub begin-spec : {M : Type 1} → statement M
 begin-spec = tie.close (tie.spec start-requires enum-told new-requires enum-told-2 returns returns-2)

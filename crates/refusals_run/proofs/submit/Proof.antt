@@ -9,23 +9,23 @@ use Rattle.refusals_run.proofs.submit.Tie as tie
 returns : tie.Need-returns
 returns c = search needs
 
-slice-aggregate-process : tie.Need-slice-aggregate-process
-slice-aggregate-process c = search needs
+slice-aggregate-process-words : tie.Need-slice-aggregate-process-words
+slice-aggregate-process-words c = search needs
 
-slice-aggregate-process-2 : tie.Need-slice-aggregate-process-2
-slice-aggregate-process-2 c = search needs
+slice-aggregate-process-words-2 : tie.Need-slice-aggregate-process-words-2
+slice-aggregate-process-words-2 c = search needs
 
 array-borrow-prefix-answer : tie.Need-array-borrow-prefix-answer
 array-borrow-prefix-answer c = search needs
 
-slice-aggregate-process-3 : tie.Need-slice-aggregate-process-3
-slice-aggregate-process-3 c = sym (length-take-le _ _ (omega arith))
+slice-aggregate-process-words-3 : tie.Need-slice-aggregate-process-words-3
+slice-aggregate-process-words-3 c = sym (length-take-le _ _ (omega arith))
 
 submission-requires : tie.Need-submission-requires
 submission-requires c κs = search needs
 
-process-requires : tie.Need-process-requires
-process-requires c κs = search needs
+process-words-requires : tie.Need-process-words-requires
+process-words-requires c κs = search needs
 
 write-all-requires : tie.Need-write-all-requires
 write-all-requires c κs = search needs
@@ -53,12 +53,12 @@ submit-spec =
     tie.close
     (tie.spec
     returns
-    slice-aggregate-process
-    slice-aggregate-process-2
+    slice-aggregate-process-words
+    slice-aggregate-process-words-2
     array-borrow-prefix-answer
-    slice-aggregate-process-3
+    slice-aggregate-process-words-3
     submission-requires
-    process-requires
+    process-words-requires
     write-all-requires
     show-requires
     slice-aggregate-write-all

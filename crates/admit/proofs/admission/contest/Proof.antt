@@ -23,6 +23,9 @@ slice-aggregate-is-loser c = search needs
 is-loser-requires : tie.Need-is-loser-requires
 is-loser-requires c κs = (room-fits _ _ _ _ (c .before .before .before .before .before .before .before .before .before .before .before .pre .0) .entries, (omega arith, omega arith))
 
+places-requires : tie.Need-places-requires
+places-requires c κs = search needs
+
 smaller-requires : tie.Need-smaller-requires
 smaller-requires c κs = search needs
 
@@ -44,8 +47,8 @@ same-length-3 c = search needs
 returns : tie.Need-returns
 unfolding entryOf
 returns c =
-    let l = c .before .before .before .before .before .before .before .before .before .before .before .conflicts .ensures in
-    (rw (← l .rows) (contest-lost _ _ _ _ _ _ _ _ _ _ _ _ _ _ _ (record { fits = room-fits _ _ _ _ (c .before .before .before .before .before .before .before .before .before .before .before .before .before .before .before .before .before .before .before .pre .0); tables = refl }) (sym (c .before .before .before .before .before .before .before .is-loser .ensures) ∙ c .before .before .before .before .before .before .if1 .taken) (l .count ∙ sym (ap length (l .rows))) (c .before .before .before .before .before .smaller .ensures) (c .before .before .write-ids .ensures)), spares-lost _ _ _ _ _ _ _)
+    let l = c .before .before .before .before .before .before .before .before .before .before .before .before .before .conflicts .ensures in
+    (rw (← l .rows) (contest-lost _ _ _ _ _ _ _ _ _ _ _ _ _ _ _ (record { fits = room-fits _ _ _ _ (c .before .before .before .before .before .before .before .before .before .before .before .before .before .before .before .before .before .before .before .before .before .pre .0); tables = refl }) (sym (c .before .before .before .before .before .before .before .before .before .is-loser .ensures) ∙ c .before .before .before .before .before .before .before .before .if1 .taken) (l .count ∙ sym (ap length (l .rows))) (rw (c .before .before .before .before .before .before .places .ensures) at (c .before .before .before .before .before .smaller .ensures)) (c .before .before .write-ids .ensures)), spares-lost _ _ _ _ _ _ _)
 
 slice-aggregate-remove-all : tie.Need-slice-aggregate-remove-all
 slice-aggregate-remove-all c = search needs
@@ -83,6 +86,7 @@ contest-spec =
     conflicts-requires
     slice-aggregate-is-loser
     is-loser-requires
+    places-requires
     smaller-requires
     slice-aggregate-write-ids
     write-ids-requires

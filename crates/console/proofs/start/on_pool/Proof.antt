@@ -50,7 +50,7 @@ same-length c = search needs
 
 -- src/start.rt:49:1
 returns : tie.Need-returns
-returns c = after-ready _ _ _ _ _ _ _ _ _ _ (c .before .before .before .before .before .before .before .before .before .before .before .before .before .before .before .before .before .pre .0) _ _ (sym (rw (← c .before .before .before .before .before .before .before .before .before .before .config-of .ensures) (c .before .before .before .before .before .before .before .before .before .start .ensures)) ∙ c .before .before .before .before .before .before .before .started .given .1) (c .before .before .before .before .before .new .ensures) (c .before .before .text .ensures)
+returns c = after-ready _ _ _ _ _ _ _ _ _ _ (c .before .before .before .before .before .before .before .before .before .before .before .before .before .before .before .before .before .pre .0) _ _ (sym (rw (← c .before .before .before .before .before .before .before .before .before .before .config-of .ensures) (c .before .before .before .before .before .before .before .before .before .start .ensures .0)) ∙ c .before .before .before .before .before .before .before .started .given .1) (c .before .before .before .before .before .new .ensures) (c .before .before .text .ensures)
 
 -- src/start.rt:49:1
 same-length-2 : tie.Need-same-length-2
@@ -58,7 +58,7 @@ same-length-2 c = search needs
 
 -- src/start.rt:49:1
 returns-2 : tie.Need-returns-2
-returns-2 c = after-refused _ _ _ _ _ _ _ _ _ _ (c .before .before .before .before .before .before .before .before .before .before .before .before .before .before .before .before .before .pre .0) _ (sym (rw (← c .before .before .before .before .before .before .before .before .before .before .config-of .ensures) (c .before .before .before .before .before .before .before .before .before .start .ensures)) ∙ c .before .before .before .before .before .before .before .started2 .given .1) (c .before .before .refused .ensures)
+returns-2 c = after-refused _ _ _ _ _ _ _ _ _ _ (c .before .before .before .before .before .before .before .before .before .before .before .before .before .before .before .before .before .pre .0) _ (sym (rw (← c .before .before .before .before .before .before .before .before .before .before .config-of .ensures) (c .before .before .before .before .before .before .before .before .before .start .ensures .0)) ∙ c .before .before .before .before .before .before .before .started2 .given .1) (c .before .before .refused .ensures)
 
 pub on-pool-spec : {M : Type 1} → statement M
 on-pool-spec =

@@ -1,0 +1,13 @@
+pub mod Queue
+pub mod Words
+pub mod Circle
+pub mod Laws
+pub mod Promises
+pub mod Kept
+pub mod Run
+pub mod Steps
+pub mod Theorem
+pub mod Played
+pub mod Reached
+pub mod Exports
+pub mod Kinds
