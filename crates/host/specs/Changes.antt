@@ -1,7 +1,7 @@
 -- What the exported calls beside a submission leave, by the words of the C side: a return, an invalidation and a block. As for a submission, an
 -- outcome stands behind the number, and with it and the state that the words now hold the call's own contract is met.
 use Prim.Native.Nat.{ℕ, _/_, _≤_, _<_}
-use mathlib.Core.Path.{_≡_, refl, sym, ap, _∙_}
+use mathlib.Core.Path.{_≡_, refl, sym, _∙_}
 use mathlib.Core.Bool.{true, false}
 use mathlib.Core.List.{List, [], _∷_}
 use native.Mathlib.Omega.{arith}
