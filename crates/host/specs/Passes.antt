@@ -6,7 +6,7 @@ use mathlib.Core.Bool.{true, false, not}
 use mathlib.Core.List.{List, [], _∷_}
 use native.Mathlib.Omega.{arith}
 use lib.Dec.{leb}
-use lib.ListN.{length, take, drop}
+use lib.ListN.{length, take, drop, set}
 use Rattle.words.specs.Lists.{pick}
 use Rattle.words.specs.Sums.{cap}
 use Rattle.words.specs.Ids.{idWords}
@@ -48,9 +48,11 @@ pub record Passed (s₀ s : List ℕ) (o : Outcome) (code : ℕ) : Type 0 where
   pub kept : length s ≡ length s₀
   pub settings : take 9 s ≡ take 9 s₀
   pub rest : drop 25 s ≡ drop 25 s₀
+  -- where the state is what it was, as in a refusal, so is every word but the number of ids
+  pub spared : stateOf s ≡ stateOf s₀ → s ≡ set s₀ 24 0
 
 passed : {s₀ s : List ℕ} {r : Mempool} {o : Outcome} {code : ℕ} → Stored s₀ s r → code ≡ codeOf o → Passed s₀ s o code
-passed z c = record { answered = c; written = z .written; kept = z .kept; settings = z .settings; rest = z .rest }
+passed z c = record { answered = c; written = z .written; kept = z .kept; settings = z .settings; rest = z .rest; spared = z .spared }
 
 -- ---- open
 

@@ -23,7 +23,7 @@ ghost use Rattle.words.specs.Ids.{wordsAt};
 ghost use Rattle.entries.specs.Layout.{costOf};
 ghost use Rattle.host.specs.Host.{strategyOf};
 ghost use Rattle.host.specs.State.{lowHalf, configOf, countsOf, sumsOf, passOf, stateOf, sourceOf, verdictOf, submissionOf, leftWords};
-ghost use Rattle.host.specs.Stored.{passWords, Stored};
+ghost use Rattle.host.specs.Stored.{flagWord, halfWord, passWords, Stored};
 ghost use Rattle.host.specs.Starts.{Cleared};
 ghost use Rattle.host.specs.Changes.{txOf};
 
@@ -190,28 +190,45 @@ pub fn store_left(s: &mut [u64], mempool: Mempool, written: u64)
     s[24] = written;
 }
 
-fn flag(b: bool) -> u64
-    ensures { λ r. ⌜ r ≡ pick b 1 0 ⌝ }
+// A flag's word, where `was` stood: it stays where it says the same, ..
+fn flag_word(was: u64, b: bool) -> u64
+    ensures { λ r. ⌜ r ≡ flagWord was b ⌝ }
 {
-    if b {
+    if !b {
+        return 0;
+    }
+    if was == 0 {
         return 1;
     }
-    0
+    was
+}
+
+// .. and so does the word of 32 bits.
+fn half_word(was: u64, n: u32) -> u64
+    ensures { λ r. ⌜ r ≡ halfWord was n ⌝ }
+{
+    if low_half(was) == n {
+        return was;
+    }
+    n as u64
 }
 
 // A call of a pass changes the pass too, ..
 fn store_pass(s: &mut [u64], pass: Pass)
     requires { ⌜ 25 ≤ length (now s) ⌝ }
-    ensures { λ _. ⌜ now (s .exit) ≡ sets (now (s .entry)) 14 (passWords pass) ⌝ }
+    ensures { λ _. ⌜ now (s .exit) ≡ sets (now (s .entry)) 14 (passWords (now (s .entry)) pass) ⌝ }
     ensures { λ _. ⌜ lowHalf (pass .preheader) ≡ pass .preheader ⌝ }
 {
     let candidate = pass.candidate;
-    s[14] = flag(pass.open);
-    s[15] = flag(pass.out);
+    let open = flag_word(s[14], pass.open);
+    let out = flag_word(s[15], pass.out);
+    let preheader = half_word(s[22], pass.preheader);
+    s[14] = open;
+    s[15] = out;
     put_id(s, 16, candidate);
     s[20] = pass.time;
     s[21] = pass.limit;
-    s[22] = pass.preheader as u64;
+    s[22] = preheader;
     s[23] = pass.spent;
 }
 

@@ -76,9 +76,9 @@
 //
 // Too few words of a state are refusal 1. So are too few of statistics, of a submission or of a transaction, and less than 4 words of an answer buffer
 // are refusal 2 of next; but an open pass is named first there, with 20, and none with 21. Nothing changes then. Start takes its settings from words 0
-// to 8 and clears 9 to 24; start_stats empties the statistics, their window at `time`; open, next and answer change 9 to 24, and store a pass as it is
-// decoded, refused or not: a flag as 0 or 1, a preheader without its high half; any other changing call changes 9 to 13 and 24, and no other word of the
-// state. A refusal leaves what is lent, but for what 9, 10, 29 and 30 say.
+// to 8 and clears 9 to 24; start_stats empties the statistics, their window at `time`; open, next and answer change 9 to 24; any other changing call
+// changes 9 to 13 and 24, and no other word of the state. A refusal leaves every word that is lent, and of the state all but word 24; but for what 9,
+// 10, 29 and 30 say.
 pub mod changes;
 pub mod codes;
 pub mod fee_queries;
