@@ -30,6 +30,7 @@ use Rattle.process.specs.Numbers.{refusals, ofSubmission}
 use Rattle.returns.specs.Numbers.{returnRefusals, ofReturn, ofInvalidation}
 use Rattle.blocks.specs.Numbers.{ofBlock}
 use Rattle.cleanup.specs.Numbers.{ofOpen, ofNext, ofAnswer}
+use Rattle.host.specs.State.{passOf}
 use Rattle.host.specs.Codes.{codeOf, writtenOf}
 use Rattle.host.specs.Calls.{Lent, Submitted}
 use Rattle.host.specs.Changes.{ReturnCall, InvalidateCall, BlockCall}
@@ -37,6 +38,11 @@ use Rattle.host.specs.Passes.{OpenCall, NextCall, AnswerCall}
 
 differ : {A : Type 0} → false ≡ true → A
 differ e = let z : _≡_ {A = ℕ} 0 1 = cc in absurd (omega arith)
+
+-- one of two numbers
+picked : (l : List ℕ) (m n : ℕ) (t : Bool) → among m l ≡ true → among n l ≡ true → among (pick t m n) l ≡ true
+picked l m n true p q = p
+picked l m n false p q = q
 
 -- ---- a submission
 
@@ -78,8 +84,8 @@ always-ours {w₀} {w} {s₀} {s} {sub} {ins} {outs} {code} r = go (decLt (lengt
   where
     go : Dec (length s₀ < 25) → Dec (length sub < 11) → among code codes ≡ true
     go (yes p) q = rw (r .shortState p .answered)
-    go (no p) (yes q) = rw (r .shortSub q .answered)
-    go (no p) (no q) = let a = r .ran (omega (arith, p)) (omega (arith, q)) in rw (a .answered) (code-of (processedOf (a .outcome)) (a .ours))
+    go (no p) (yes q) = rw (r .shortSub (omega (arith, p)) q .answered) (picked codes 20 1 (passOf s₀ .«open») refl refl)
+    go (no p) (no q) = let a = r .ran (omega (arith, p)) (omega (arith, q)) in rw (a .left .answered) (code-of (processedOf (a .outcome)) (a .ours))
 
 -- the outcome of a number, and of how many ids were written
 abbrev pub outcomeOf : ℕ → ℕ → Outcome
@@ -134,7 +140,7 @@ return-ours {s₀ = s₀} {tx = tx} {code = code} r = go (decLt (length s₀) 25
   where
     go : Dec (length s₀ < 25) → Dec (length tx < 13) → among code (0 ∷ returnRefusals) ≡ true
     go (yes p) q = rw (r .shortState p .answered)
-    go (no p) (yes q) = rw (r .shortTx q .answered)
+    go (no p) (yes q) = rw (r .shortTx (omega (arith, p)) q .answered) (picked (0 ∷ returnRefusals) 20 1 (passOf s₀ .«open») refl refl)
     go (no p) (no q) = let a = r .ran (omega (arith, p)) (omega (arith, q)) in rw (a .left .answered) (return-code (a .outcome) (a .ours))
 
 pub invalidate-ours : {e₀ e b₀ b k₀ k s₀ s : List ℕ} {time id code : ℕ} → InvalidateCall e₀ e b₀ b k₀ k s₀ s time id code → among code (0 ∷ 20 ∷ 1 ∷ []) ≡ true
@@ -150,7 +156,7 @@ block-ours {s₀ = s₀} {t₀ = t₀} {code = code} r = go (decLt (length s₀)
   where
     go : Dec (length s₀ < 25) → Dec (length t₀ < 124) → among code (100 ∷ 20 ∷ 1 ∷ 2 ∷ []) ≡ true
     go (yes p) q = rw (r .shortState p .answered)
-    go (no p) (yes q) = rw (r .shortStats q .answered)
+    go (no p) (yes q) = rw (r .shortStats (omega (arith, p)) q .answered) (picked (100 ∷ 20 ∷ 1 ∷ 2 ∷ []) 20 1 (passOf s₀ .«open») refl refl)
     go (no p) (no q) = let a = r .ran (omega (arith, p)) (omega (arith, q)) in rw (a .left .answered) (block-code (a .outcome) (a .ours))
 
 -- ---- the calls of a pass: opened with 0; a candidate with 102 and ended with 103; an input missing, invalid and valid with 104 to 106
@@ -187,7 +193,7 @@ next-ours {s₀ = s₀} {a₀ = a₀} {code = code} r = go (decLt (length s₀) 
   where
     go : Dec (length s₀ < 25) → Dec (length a₀ < 4) → among code (102 ∷ 103 ∷ 2 ∷ 21 ∷ 1 ∷ []) ≡ true
     go (yes p) q = rw (r .shortState p .answered)
-    go (no p) (yes q) = rw (r .shortAnswer (omega (arith, p)) q .0)
+    go (no p) (yes q) = rw (r .shortAnswer (omega (arith, p)) q .answered) (picked (102 ∷ 103 ∷ 2 ∷ 21 ∷ 1 ∷ []) 2 21 (passOf s₀ .«open») refl refl)
     go (no p) (no q) = let a = r .ran (omega (arith, p)) (omega (arith, q)) in rw (a .left .answered) (next-code (a .outcome) (a .ours))
 
 pub answer-ours : {e₀ e b₀ b k₀ k s₀ s flags : List ℕ} {v : Verdict} {code : ℕ} → AnswerCall e₀ e b₀ b k₀ k s₀ s flags v code → among code (101 ∷ 104 ∷ 105 ∷ 106 ∷ 21 ∷ 1 ∷ []) ≡ true

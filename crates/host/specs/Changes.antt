@@ -1,11 +1,12 @@
 -- What the exported calls beside a submission leave, by the words of the C side: a return, an invalidation and a block. As for a submission, an
 -- outcome stands behind the number, and with it and the state that the words now hold the call's own contract is met.
-use Prim.Native.Nat.{ℕ, _≤_, _<_}
-use mathlib.Core.Path.{_≡_, refl, sym, ap, _∙_}
+use Prim.Native.Nat.{ℕ, _/_, _≤_, _<_}
+use mathlib.Core.Path.{_≡_, refl, sym, _∙_}
 use mathlib.Core.Bool.{true, false}
 use mathlib.Core.List.{List, [], _∷_}
 use native.Mathlib.Omega.{arith}
 use lib.ListN.{length, getD}
+use Rattle.words.specs.Lists.{pick}
 use Rattle.words.specs.Ids.{wordsAt}
 use Rattle.pool_types.specs.declared.Mempool.{Mempool}
 use Rattle.pool_types.specs.declared.ReturnOutcome.{ReturnOutcome}
@@ -14,27 +15,26 @@ use Rattle.pool_types.specs.declared.InvalidateOutcome.{InvalidateOutcome}
 use Rattle.pool_types.specs.declared.InvalidateOutcome.the-variants.{Invalidated, NotInvalidated}
 use Rattle.pool_types.specs.declared.BlockOutcome.{BlockOutcome}
 use Rattle.pool_types.specs.declared.Source.the-variants.{Peer}
-use Rattle.pool_types.specs.Outcomes.{Outcome, returnedOf, invalidatedOf, blockOf}
+use Rattle.pool_types.specs.Outcomes.{refused, wrote, returnedOf, invalidatedOf, blockOf}
 use Rattle.stats.specs.declared.FeeStats.{FeeStats}
-use Rattle.entries.specs.Layout.{entriesRoom, costOf}
+use Rattle.peers.specs.declared.PeerRecord.{PeerRecord}
+use Rattle.entries.specs.Layout.{costOf}
 use Rattle.entries.specs.declared.fields.ValidationCost.the-variants.{Unmeasured}
-use Rattle.boxes.specs.Layout.{boxesRoom}
 use Rattle.pool.specs.Pool.{fitsTest}
-use Rattle.store.specs.World.{worldOf}
-use Rattle.store.specs.Fits.{Testable, Fits}
-use Rattle.returns.specs.Returns.{returned, invalidated}
-use Rattle.returns.specs.Post.{Meets, Untouched, cacheFits}
+use Rattle.store.specs.Fits.{cacheFits}
+use Rattle.store.specs.Spares.{Spares, lent}
+use Rattle.returns.specs.Promises.{ReturnPromise, InvalidatePromise}
 use Rattle.returns.specs.Numbers.{ofReturn, ofInvalidation}
 use Rattle.returns.specs.declared.UnconfirmedTx.{UnconfirmedTx}
 use Rattle.returns.specs.declared.Returned.{Returned as ReturnedRecord}
 use Rattle.returns.specs.declared.Invalidated.{Invalidated as InvalidatedRecord}
-use Rattle.blocks.specs.Post.{Post, resultOf}
-use Rattle.blocks.specs.Post.{Untouched as BlockUntouched}
+use Rattle.blocks.specs.Post.{BlockPromise}
 use Rattle.blocks.specs.Numbers.{ofBlock}
 use Rattle.blocks.specs.declared.Applied.{Applied}
-use Rattle.host.specs.State.{lowHalf, stateOf, sourceOf, writtenAt, changing, leftWords, left-length, left-written, left-others, left-held}
-use Rattle.host.specs.Statistics.{statsOf, Restored}
+use Rattle.host.specs.State.{lowHalf, passOf, stateOf, sourceOf, leftWords, left-held}
+use Rattle.host.specs.Statistics.{statsOf, Restored, same-stats}
 use Rattle.host.specs.Codes.{codeOf, writtenOf}
+use Rattle.host.specs.Spared.{Changed, changed, left-spares}
 
 -- ---- a transaction that is given back: 13 words
 
@@ -57,53 +57,42 @@ given-back : txOf (1 ∷ 2 ∷ 3 ∷ 4 ∷ 5 ∷ 300 ∷ 4294967303 ∷ 0 ∷ 9 
 unfolding txOf
 given-back = refl
 
--- ---- what all of them leave in the state's words
+-- ---- too few words
 
--- the outcome's number is answered, and how many ids were written; the settings and the pass are as they were
-pub record Changed (s₀ s : List ℕ) (o : Outcome) (code : ℕ) : Type 0 where
-  pub answered : code ≡ codeOf o
-  pub written : writtenAt s ≡ writtenOf o
-  pub kept : length s ≡ length s₀
-  pub others : (i : ℕ) → changing i ≡ false → getD s i 0 ≡ getD s₀ i 0
-
--- too few words are refused with 1, and no word of the call's slices, which were `was` and are `are`, is another
-pub record Idle (code : ℕ) (was are : List (List ℕ)) : Type 0 where
-  pub answered : code ≡ 1
+-- they are refused with n, and no word of the call's slices, which were `was` and are `are`, is another
+pub record Idle (n code : ℕ) (was are : List (List ℕ)) : Type 0 where
+  pub answered : code ≡ n
   pub words : are ≡ was
 
-pub idle : (l : List (List ℕ)) → Idle 1 l l
-idle l = record { answered = refl; words = refl }
-
-changed : (s₀ s : List ℕ) (r : Mempool) (n : ℕ) {code : ℕ} (o : Outcome) → 25 ≤ length s₀ → s ≡ leftWords s₀ (r .counts) (r .cached) (r .sums) n → code ≡ codeOf o → n ≡ writtenOf o → Changed s₀ s o code
-changed s₀ s r n o h q c d =
-    record {
-      answered = c;
-      written = ap writtenAt q ∙ left-written s₀ (r .counts) (r .cached) (r .sums) n h ∙ d;
-      kept = ap length q ∙ left-length s₀ (r .counts) (r .cached) (r .sums) n;
-      others = λ i z. ap (λ (l : List ℕ). getD l i 0) q ∙ left-others s₀ (r .counts) (r .cached) (r .sums) n h i z;
-    }
+pub idle : {n code : ℕ} (l : List (List ℕ)) → code ≡ n → Idle n code l l
+idle l c = record { answered = c; words = refl }
 
 -- ---- a return
+
+-- what a refusal spares, whatever the words of the cache, the peer records and the answer buffer's words are
+abbrev pub ReturnSpares : List ℕ → List ℕ → List ℕ → List ℕ → Mempool → Mempool → ReturnOutcome → Type 0
+ReturnSpares e₀ e b₀ b st r o = (k : List ℕ) (ys : List PeerRecord) (a : List ℕ) → Spares (returnedOf o) (lent e₀ b₀ k ys a st) (lent e b k ys a r)
 
 pub record Returning (e₀ e b₀ b s₀ s tx ins outs : List ℕ) (code : ℕ) : Type 0 where
   pub outcome : ReturnOutcome
   pub left : Changed s₀ s (returnedOf outcome) code
   pub ours : ofReturn outcome ≡ true
-  pub post : (k p : List ℕ) → Fits e₀ b₀ k p (stateOf s₀)
-      → Meets (stateOf s₀) (stateOf s) (returnedOf outcome) e b k p (returned (entriesRoom e₀) (boxesRoom b₀) (stateOf s₀) (worldOf e₀ b₀ k p (stateOf s₀)) (txOf tx) ins outs)
-  pub unfit : fitsTest e₀ b₀ (stateOf s₀ .counts) ≡ false → Untouched (stateOf s₀) (stateOf s) (returnedOf outcome) (e₀ ∷ b₀ ∷ []) (e ∷ b ∷ [])
+  pub post : ReturnPromise e₀ b₀ (stateOf s₀) (txOf tx) ins outs e b (stateOf s) (returnedOf outcome)
+  pub spares : ReturnSpares e₀ e b₀ b (stateOf s₀) (stateOf s) outcome
+  pub unfit : fitsTest e₀ b₀ (stateOf s₀ .counts) ≡ false → returnedOf outcome ≡ refused (pick (stateOf s₀ .pass .«open») 20 1) 0
 
+-- "20 or 21 first": where the state is there, an open pass is named before too few words of a transaction
 pub record ReturnCall (e₀ e b₀ b s₀ s tx ins outs : List ℕ) (code : ℕ) : Type 0 where
-  pub shortState : length s₀ < 25 → Idle code (e₀ ∷ b₀ ∷ s₀ ∷ []) (e ∷ b ∷ s ∷ [])
-  pub shortTx : length tx < 13 → Idle code (e₀ ∷ b₀ ∷ s₀ ∷ []) (e ∷ b ∷ s ∷ [])
+  pub shortState : length s₀ < 25 → Idle 1 code (e₀ ∷ b₀ ∷ s₀ ∷ []) (e ∷ b ∷ s ∷ [])
+  pub shortTx : 25 ≤ length s₀ → length tx < 13 → Idle (pick (passOf s₀ .«open») 20 1) code (e₀ ∷ b₀ ∷ s₀ ∷ []) (e ∷ b ∷ s ∷ [])
   pub ran : 25 ≤ length s₀ → 13 ≤ length tx → Returning e₀ e b₀ b s₀ s tx ins outs code
 
 module _ (e b s tx ins outs : List ℕ) where
   pub return-few : length s < 25 → ReturnCall e e b b s s tx ins outs 1
-  return-few h = record { shortState = λ _. idle _; shortTx = λ _. idle _; ran = λ g _. absurd (omega arith) }
+  return-few h = record { shortState = λ _. idle _ refl; shortTx = λ g _. absurd (omega arith); ran = λ g _. absurd (omega arith) }
 
-  pub return-few-tx : length tx < 13 → ReturnCall e e b b s s tx ins outs 1
-  return-few-tx h = record { shortState = λ _. idle _; shortTx = λ _. idle _; ran = λ _ g. absurd (omega arith) }
+  pub return-few-tx : {code : ℕ} → 25 ≤ length s → length tx < 13 → code ≡ pick (passOf s .«open») 20 1 → ReturnCall e e b b s s tx ins outs code
+  return-few-tx h g c = record { shortState = λ f. absurd (omega arith); shortTx = λ _ _. idle _ c; ran = λ _ f. absurd (omega arith) }
 
 returns-none : (o : ReturnOutcome) → 0 ≡ writtenOf (returnedOf o)
 unfolding returnedOf writtenOf
@@ -112,39 +101,49 @@ returns-none (NotReturned n) = refl
 
 -- from what return_to_pool says of the state and the transaction that were read
 module _ (e₀ e b₀ b s₀ s tx ins outs : List ℕ) (n : ℕ) {st : Mempool} {u : UnconfirmedTx} (r : ReturnedRecord) (h : 25 ≤ length s₀) (g : 13 ≤ length tx) (f : st ≡ stateOf s₀) (d : u ≡ txOf tx)
-    (p : (k p : List ℕ) → Fits e₀ b₀ k p st → Meets st (r .mempool) (returnedOf (r .outcome)) e b k p (returned (entriesRoom e₀) (boxesRoom b₀) st (worldOf e₀ b₀ k p st) u ins outs))
-    (x : fitsTest e₀ b₀ (st .counts) ≡ false → Untouched st (r .mempool) (returnedOf (r .outcome)) (e₀ ∷ b₀ ∷ []) (e ∷ b ∷ []))
+    (p : ReturnPromise e₀ b₀ st u ins outs e b (r .mempool) (returnedOf (r .outcome)))
+    (v : ReturnSpares e₀ e b₀ b st (r .mempool) (r .outcome))
+    (x : fitsTest e₀ b₀ (st .counts) ≡ false → returnedOf (r .outcome) ≡ refused (pick (st .pass .«open») 20 1) 0)
     (q : s ≡ leftWords s₀ (r .mempool .counts) (r .mempool .cached) (r .mempool .sums) n) where
-  return-posted : (k p : List ℕ) → Fits e₀ b₀ k p st → Meets st (stateOf s) (returnedOf (r .outcome)) e b k p (returned (entriesRoom e₀) (boxesRoom b₀) st (worldOf e₀ b₀ k p st) u ins outs)
-  return-posted k y z = let t = p k y z in rw (left-held s₀ s st (r .mempool) n h f q (t .config) (t .pass)) t
-
-  return-unfit : fitsTest e₀ b₀ (st .counts) ≡ false → Untouched st (stateOf s) (returnedOf (r .outcome)) (e₀ ∷ b₀ ∷ []) (e ∷ b ∷ [])
-  return-unfit z = let t = x z in rw (left-held s₀ s st (r .mempool) n h f q (ap (λ (m : Mempool). m .config) (t .state)) (ap (λ (m : Mempool). m .pass) (t .state))) t
+  return-posted : ReturnPromise e₀ b₀ st u ins outs e b (stateOf s) (returnedOf (r .outcome))
+  return-posted k ys z = let t = p k ys z in rw (left-held s₀ s st (r .mempool) n h f q (t .config) (t .pass)) t
 
   pub return-words : {code : ℕ} → ofReturn (r .outcome) ≡ true → code ≡ codeOf (returnedOf (r .outcome)) → n ≡ 0 → ReturnCall e₀ e b₀ b s₀ s tx ins outs code
   return-words o c w =
       record {
         shortState = λ z. absurd (omega arith);
-        shortTx = λ z. absurd (omega arith);
-        ran = λ _ _. record { outcome = r .outcome; left = changed s₀ s (r .mempool) n (returnedOf (r .outcome)) h q c (w ∙ returns-none (r .outcome)); ours = o; post = rw (← f, ← d) return-posted; unfit = rw (← f) return-unfit };
+        shortTx = λ _ z. absurd (omega arith);
+        ran =
+            λ _ _.
+            record {
+              outcome = r .outcome;
+              left = changed s₀ s (r .mempool) n h q (returnedOf (r .outcome)) c (w ∙ returns-none (r .outcome));
+              ours = o;
+              post = rw (← f, ← d) return-posted;
+              spares = λ k ys a. left-spares s₀ s (r .mempool) n h q f (v k ys a);
+              unfit = rw (← f) x;
+            };
       }
 
 -- ---- an invalidation
+
+abbrev pub InvalidateSpares : List ℕ → List ℕ → List ℕ → List ℕ → List ℕ → List ℕ → Mempool → Mempool → InvalidateOutcome → Type 0
+InvalidateSpares e₀ e b₀ b k₀ k st r o = (ys : List PeerRecord) (a : List ℕ) → Spares (invalidatedOf o) (lent e₀ b₀ k₀ ys a st) (lent e b k ys a r)
 
 pub record Invalidating (e₀ e b₀ b k₀ k s₀ s : List ℕ) (time id code : ℕ) : Type 0 where
   pub outcome : InvalidateOutcome
   pub left : Changed s₀ s (invalidatedOf outcome) code
   pub ours : ofInvalidation outcome ≡ true
-  pub post : (p : List ℕ) → Fits e₀ b₀ k₀ p (stateOf s₀)
-      → Meets (stateOf s₀) (stateOf s) (invalidatedOf outcome) e b k p (invalidated (stateOf s₀) (worldOf e₀ b₀ k₀ p (stateOf s₀)) time id)
-  pub unfit : cacheFits e₀ b₀ k₀ (stateOf s₀) ≡ false → Untouched (stateOf s₀) (stateOf s) (invalidatedOf outcome) (e₀ ∷ b₀ ∷ k₀ ∷ []) (e ∷ b ∷ k ∷ [])
+  pub post : InvalidatePromise e₀ b₀ k₀ (stateOf s₀) time id e b k (stateOf s) (invalidatedOf outcome)
+  pub spares : InvalidateSpares e₀ e b₀ b k₀ k (stateOf s₀) (stateOf s) outcome
+  pub unfit : cacheFits e₀ b₀ k₀ (stateOf s₀) ≡ false → invalidatedOf outcome ≡ refused (pick (stateOf s₀ .pass .«open») 20 1) 0
 
 pub record InvalidateCall (e₀ e b₀ b k₀ k s₀ s : List ℕ) (time id code : ℕ) : Type 0 where
-  pub short : length s₀ < 25 → Idle code (e₀ ∷ b₀ ∷ k₀ ∷ s₀ ∷ []) (e ∷ b ∷ k ∷ s ∷ [])
+  pub short : length s₀ < 25 → Idle 1 code (e₀ ∷ b₀ ∷ k₀ ∷ s₀ ∷ []) (e ∷ b ∷ k ∷ s ∷ [])
   pub ran : 25 ≤ length s₀ → Invalidating e₀ e b₀ b k₀ k s₀ s time id code
 
 pub invalidate-few : (e b k s : List ℕ) (time id : ℕ) → length s < 25 → InvalidateCall e e b b k k s s time id 1
-invalidate-few e b k s time id h = record { short = λ _. idle _; ran = λ g. absurd (omega arith) }
+invalidate-few e b k s time id h = record { short = λ _. idle _ refl; ran = λ g. absurd (omega arith) }
 
 invalidates-none : (o : InvalidateOutcome) → 0 ≡ writtenOf (invalidatedOf o)
 unfolding invalidatedOf writtenOf
@@ -152,71 +151,88 @@ invalidates-none Invalidated = refl
 invalidates-none (NotInvalidated n) = refl
 
 module _ (e₀ e b₀ b k₀ k s₀ s : List ℕ) (time id n : ℕ) {st : Mempool} (r : InvalidatedRecord) (h : 25 ≤ length s₀) (f : st ≡ stateOf s₀)
-    (p : (p : List ℕ) → Fits e₀ b₀ k₀ p st → Meets st (r .mempool) (invalidatedOf (r .outcome)) e b k p (invalidated st (worldOf e₀ b₀ k₀ p st) time id))
-    (x : cacheFits e₀ b₀ k₀ st ≡ false → Untouched st (r .mempool) (invalidatedOf (r .outcome)) (e₀ ∷ b₀ ∷ k₀ ∷ []) (e ∷ b ∷ k ∷ []))
+    (p : InvalidatePromise e₀ b₀ k₀ st time id e b k (r .mempool) (invalidatedOf (r .outcome)))
+    (v : InvalidateSpares e₀ e b₀ b k₀ k st (r .mempool) (r .outcome))
+    (x : cacheFits e₀ b₀ k₀ st ≡ false → invalidatedOf (r .outcome) ≡ refused (pick (st .pass .«open») 20 1) 0)
     (q : s ≡ leftWords s₀ (r .mempool .counts) (r .mempool .cached) (r .mempool .sums) n) where
-  invalidate-posted : (p : List ℕ) → Fits e₀ b₀ k₀ p st → Meets st (stateOf s) (invalidatedOf (r .outcome)) e b k p (invalidated st (worldOf e₀ b₀ k₀ p st) time id)
-  invalidate-posted y z = let t = p y z in rw (left-held s₀ s st (r .mempool) n h f q (t .config) (t .pass)) t
-
-  invalidate-unfit : cacheFits e₀ b₀ k₀ st ≡ false → Untouched st (stateOf s) (invalidatedOf (r .outcome)) (e₀ ∷ b₀ ∷ k₀ ∷ []) (e ∷ b ∷ k ∷ [])
-  invalidate-unfit z = let t = x z in rw (left-held s₀ s st (r .mempool) n h f q (ap (λ (m : Mempool). m .config) (t .state)) (ap (λ (m : Mempool). m .pass) (t .state))) t
+  invalidate-posted : InvalidatePromise e₀ b₀ k₀ st time id e b k (stateOf s) (invalidatedOf (r .outcome))
+  invalidate-posted ys z = let t = p ys z in rw (left-held s₀ s st (r .mempool) n h f q (t .config) (t .pass)) t
 
   pub invalidate-words : {code : ℕ} → ofInvalidation (r .outcome) ≡ true → code ≡ codeOf (invalidatedOf (r .outcome)) → n ≡ 0 → InvalidateCall e₀ e b₀ b k₀ k s₀ s time id code
   invalidate-words o c w =
       record {
         short = λ z. absurd (omega arith);
-        ran = λ _. record { outcome = r .outcome; left = changed s₀ s (r .mempool) n (invalidatedOf (r .outcome)) h q c (w ∙ invalidates-none (r .outcome)); ours = o; post = rw (← f) invalidate-posted; unfit = rw (← f) invalidate-unfit };
+        ran =
+            λ _.
+            record {
+              outcome = r .outcome;
+              left = changed s₀ s (r .mempool) n h q (invalidatedOf (r .outcome)) c (w ∙ invalidates-none (r .outcome));
+              ours = o;
+              post = rw (← f) invalidate-posted;
+              spares = λ ys a. left-spares s₀ s (r .mempool) n h q f (v ys a);
+              unfit = rw (← f) x;
+            };
       }
 
 -- ---- a block: t₀ were the words of the statistics, and t they are
+
+abbrev pub BlockSpares : List ℕ → List ℕ → List ℕ → List ℕ → List ℕ → List ℕ → List ℕ → List ℕ → Mempool → Mempool → BlockOutcome → Type 0
+BlockSpares e₀ e b₀ b k₀ k a₀ a st r o = (ys : List PeerRecord) → Spares (blockOf o) (lent e₀ b₀ k₀ ys a₀ st) (lent e b k ys a r)
 
 pub record Blocking (e₀ e b₀ b k₀ k a₀ a s₀ s t₀ t : List ℕ) (time : ℕ) (txs ins : List ℕ) (code : ℕ) : Type 0 where
   pub outcome : BlockOutcome
   pub left : Changed s₀ s (blockOf outcome) code
   pub ours : ofBlock (blockOf outcome) ≡ true
   pub stats : Restored t₀ t (statsOf t)
-  pub post : (p : List ℕ) → Fits e₀ b₀ k₀ p (stateOf s₀)
-      → Post (stateOf s₀) (record { mempool = stateOf s; stats = statsOf t; outcome = outcome }) e b k p a₀ a (resultOf e₀ b₀ k₀ p a₀ (stateOf s₀) (statsOf t₀) time txs ins)
-  pub unfit : (Testable e₀ b₀ k₀ (stateOf s₀) → ⊥) → BlockUntouched (stateOf s₀) (statsOf t₀) (record { mempool = stateOf s; stats = statsOf t; outcome = outcome }) e₀ e b₀ b k₀ k a₀ a
+  pub post : BlockPromise e₀ b₀ k₀ (stateOf s₀) (statsOf t₀) time txs ins e b k a₀ a (record { mempool = stateOf s; stats = statsOf t; outcome = outcome })
+  pub spares : BlockSpares e₀ e b₀ b k₀ k a₀ a (stateOf s₀) (stateOf s) outcome
+  -- a refusal leaves the statistics' words
+  pub spared : (j i : ℕ) → blockOf outcome ≡ refused j i → t ≡ t₀
+  pub unfit : cacheFits e₀ b₀ k₀ (stateOf s₀) ≡ false → blockOf outcome ≡ refused (pick (stateOf s₀ .pass .«open») 20 1) 0
+  pub few : (n : ℕ) → blockOf outcome ≡ wrote n → n ≤ length a₀ / 4
 
+-- .. and before too few words of statistics
 pub record BlockCall (e₀ e b₀ b k₀ k a₀ a s₀ s t₀ t : List ℕ) (time : ℕ) (txs ins : List ℕ) (code : ℕ) : Type 0 where
-  pub shortState : length s₀ < 25 → Idle code (e₀ ∷ b₀ ∷ k₀ ∷ a₀ ∷ s₀ ∷ t₀ ∷ []) (e ∷ b ∷ k ∷ a ∷ s ∷ t ∷ [])
-  pub shortStats : length t₀ < 124 → Idle code (e₀ ∷ b₀ ∷ k₀ ∷ a₀ ∷ s₀ ∷ t₀ ∷ []) (e ∷ b ∷ k ∷ a ∷ s ∷ t ∷ [])
+  pub shortState : length s₀ < 25 → Idle 1 code (e₀ ∷ b₀ ∷ k₀ ∷ a₀ ∷ s₀ ∷ t₀ ∷ []) (e ∷ b ∷ k ∷ a ∷ s ∷ t ∷ [])
+  pub shortStats : 25 ≤ length s₀ → length t₀ < 124 → Idle (pick (passOf s₀ .«open») 20 1) code (e₀ ∷ b₀ ∷ k₀ ∷ a₀ ∷ s₀ ∷ t₀ ∷ []) (e ∷ b ∷ k ∷ a ∷ s ∷ t ∷ [])
   pub ran : 25 ≤ length s₀ → 124 ≤ length t₀ → Blocking e₀ e b₀ b k₀ k a₀ a s₀ s t₀ t time txs ins code
 
 module _ (e b k a s t : List ℕ) (time : ℕ) (txs ins : List ℕ) where
   pub block-few : length s < 25 → BlockCall e e b b k k a a s s t t time txs ins 1
-  block-few h = record { shortState = λ _. idle _; shortStats = λ _. idle _; ran = λ g _. absurd (omega arith) }
+  block-few h = record { shortState = λ _. idle _ refl; shortStats = λ g _. absurd (omega arith); ran = λ g _. absurd (omega arith) }
 
-  pub block-few-stats : length t < 124 → BlockCall e e b b k k a a s s t t time txs ins 1
-  block-few-stats h = record { shortState = λ _. idle _; shortStats = λ _. idle _; ran = λ _ g. absurd (omega arith) }
+  pub block-few-stats : {code : ℕ} → 25 ≤ length s → length t < 124 → code ≡ pick (passOf s .«open») 20 1 → BlockCall e e b b k k a a s s t t time txs ins code
+  block-few-stats h g c = record { shortState = λ f. absurd (omega arith); shortStats = λ _ _. idle _ c; ran = λ _ f. absurd (omega arith) }
 
 pub block-ran : {e₀ e b₀ b k₀ k a₀ a s₀ s t₀ t : List ℕ} {time : ℕ} {txs ins : List ℕ} {code : ℕ} → 25 ≤ length s₀ → 124 ≤ length t₀
     → Blocking e₀ e b₀ b k₀ k a₀ a s₀ s t₀ t time txs ins code → BlockCall e₀ e b₀ b k₀ k a₀ a s₀ s t₀ t time txs ins code
-block-ran h g r = record { shortState = λ f. absurd (omega arith); shortStats = λ f. absurd (omega arith); ran = λ _ _. r }
+block-ran h g r = record { shortState = λ f. absurd (omega arith); shortStats = λ _ f. absurd (omega arith); ran = λ _ _. r }
 
-module _ (e₀ e b₀ b k₀ k a₀ a s₀ s t₀ t : List ℕ) (time : ℕ) (txs ins : List ℕ) (n : ℕ) {st : Mempool} {v : FeeStats} (r : Applied) (h : 25 ≤ length s₀) (f : st ≡ stateOf s₀) (d : v ≡ statsOf t₀)
-    (p : (p : List ℕ) → Fits e₀ b₀ k₀ p st → Post st r e b k p a₀ a (resultOf e₀ b₀ k₀ p a₀ st v time txs ins))
-    (x : (Testable e₀ b₀ k₀ st → ⊥) → BlockUntouched st v r e₀ e b₀ b k₀ k a₀ a)
+module _ (e₀ e b₀ b k₀ k a₀ a s₀ s t₀ t : List ℕ) (time : ℕ) (txs ins : List ℕ) (n : ℕ) {st : Mempool} {v : FeeStats} (r : Applied) (h : 25 ≤ length s₀) (g : 124 ≤ length t₀) (f : st ≡ stateOf s₀) (d : v ≡ statsOf t₀)
+    (p : BlockPromise e₀ b₀ k₀ st v time txs ins e b k a₀ a r)
+    (x : BlockSpares e₀ e b₀ b k₀ k a₀ a st (r .mempool) (r .outcome))
+    (z : (j i : ℕ) → blockOf (r .outcome) ≡ refused j i → r .stats ≡ v)
+    (u : cacheFits e₀ b₀ k₀ st ≡ false → blockOf (r .outcome) ≡ refused (pick (st .pass .«open») 20 1) 0)
+    (m : (n : ℕ) → blockOf (r .outcome) ≡ wrote n → n ≤ length a₀ / 4)
     (y : Restored t₀ t (r .stats))
     (q : s ≡ leftWords s₀ (r .mempool .counts) (r .mempool .cached) (r .mempool .sums) n) where
   -- what was handed back is what the words hold
   handed : r .mempool .config ≡ st .config → r .mempool .pass ≡ st .pass → r ≡ record { mempool = stateOf s; stats = statsOf t; outcome = r .outcome }
-  handed u w = λ i. record { mempool = sym (left-held s₀ s st (r .mempool) n h f q u w) i; stats = sym (y .stats) i; outcome = r .outcome }
+  handed c w = λ i. record { mempool = sym (left-held s₀ s st (r .mempool) n h f q c w) i; stats = sym (y .stats) i; outcome = r .outcome }
 
-  block-posted : (p : List ℕ) → Fits e₀ b₀ k₀ p st → Post st (record { mempool = stateOf s; stats = statsOf t; outcome = r .outcome }) e b k p a₀ a (resultOf e₀ b₀ k₀ p a₀ st v time txs ins)
-  block-posted l z = let m = p l z in rw (← handed (m .config) (m .pass)) m
-
-  block-unfit : (Testable e₀ b₀ k₀ st → ⊥) → BlockUntouched st v (record { mempool = stateOf s; stats = statsOf t; outcome = r .outcome }) e₀ e b₀ b k₀ k a₀ a
-  block-unfit z = let m = x z in rw (← handed (ap (λ (j : Mempool). j .config) (m .mempool)) (ap (λ (j : Mempool). j .pass) (m .mempool))) m
+  block-posted : BlockPromise e₀ b₀ k₀ st v time txs ins e b k a₀ a (record { mempool = stateOf s; stats = statsOf t; outcome = r .outcome })
+  block-posted ys c = let w = p ys c in rw (← handed (w .config) (w .pass)) w
 
   pub block-words : {code : ℕ} → ofBlock (blockOf (r .outcome)) ≡ true → code ≡ codeOf (blockOf (r .outcome)) → n ≡ writtenOf (blockOf (r .outcome)) → Blocking e₀ e b₀ b k₀ k a₀ a s₀ s t₀ t time txs ins code
   block-words o c w =
       record {
         outcome = r .outcome;
-        left = changed s₀ s (r .mempool) n (blockOf (r .outcome)) h q c w;
+        left = changed s₀ s (r .mempool) n h q (blockOf (r .outcome)) c w;
         ours = o;
         stats = record { kept = y .kept; stats = refl; rest = y .rest };
         post = rw (← f, ← d) block-posted;
-        unfit = rw (← f, ← d) block-unfit;
+        spares = λ ys. left-spares s₀ s (r .mempool) n h q f (x ys);
+        spared = λ j i l. same-stats t₀ t g (y .kept) (y .stats ∙ z j i l ∙ d) (y .rest);
+        unfit = rw (← f) u;
+        few = m;
       }

@@ -9,7 +9,7 @@ use native.Mathlib.Omega.{arith}
 use native.Mathlib.Decide.{ℕ-discrete}
 use lib.Dec.{eqb}
 use lib.ListN.{length, getD, set, length-set}
-use lib.Seq.{getD-set-same, getD-set-other}
+use lib.Seq.{getD-set-same, getD-set-other, set-split, split-at}
 use borrow.Author.Tests.{eq-eqb, ne-eqb}
 use Rattle.words.specs.Lists.{pick}
 use Rattle.words.specs.Ids.{wordsAt}
@@ -80,6 +80,14 @@ in-order : stateOf (1 ∷ 2 ∷ 3 ∷ 4 ∷ 5 ∷ 6 ∷ 7 ∷ 8 ∷ 9 ∷ 10 ∷
 unfolding stateOf configOf countsOf sumsOf passOf
 in-order = refl
 
+-- a pass that was read from them, open or not
+module _ (l : List ℕ) {p : Pass} (e : p ≡ passOf l) where
+  pub room-open : p .«open» ≡ true → _≡_ {A = ℕ} 2 (pick (passOf l .«open») 2 21)
+  room-open h = rw (← e, h)
+
+  pub room-closed : p .«open» ≡ false → _≡_ {A = ℕ} 21 (pick (passOf l .«open») 2 21)
+  room-closed h = rw (← e, h)
+
 -- how many ids the last changing call wrote
 abbrev pub writtenAt : List ℕ → ℕ
 writtenAt l = getD l 24 0
@@ -129,6 +137,10 @@ put l p v i h = go (ℕ-discrete i p)
     go (yes e) = rw (eq-eqb i p e) (ap (λ (j : ℕ). getD (set l p v) j 0) e ∙ getD-set-same l p v 0 h)
     go (no e) = rw (ne-eqb i p e) (getD-set-other l p i v 0 e)
 
+-- a word that is stored where it stands changes nothing
+pub set-self : (l : List ℕ) (i : ℕ) → i < length l → set l i (getD l i 0) ≡ l
+set-self l i h = set-split l i (getD l i 0) h ∙ sym (split-at l i 0 h)
+
 -- all six, in two parts
 pub left-parts : (l m o : List ℕ) (n : Counts) (k : ℕ) (s : Sums) (w u v : ℕ) → m ≡ set (set l 9 (n .pooled)) 10 (n .records) → u ≡ k → o ≡ set (set (set m 11 u) 12 (s .«interblock_cost»)) 13 (s .peers) → v ≡ w
     → set o 24 v ≡ leftWords l n k s w
@@ -160,6 +172,12 @@ module _ (l : List ℕ) (n : Counts) (k : ℕ) (s : Sums) (w : ℕ) where
         ∙ ap (pick (eqb i 11) k)
         (put l9 10 (n .records) i (simp length-set (omega arith))
         ∙ ap (pick (eqb i 10) (n .records)) (put l 9 (n .pooled) i (omega arith))))))
+
+    -- where they are what they were, all but the number of ids
+    pub left-same : n ≡ countsOf l → k ≡ getD l 11 0 → s ≡ sumsOf l → leftWords l n k s w ≡ set l 24 w
+    unfolding leftWords countsOf sumsOf
+    left-same p q r =
+        rw (p, q, r, set-self l 9 (omega arith), set-self l 10 (omega arith), set-self l 11 (omega arith), set-self l 12 (omega arith), set-self l 13 (omega arith))
 
     pub left-written : writtenAt (leftWords l n k s w) ≡ w
     left-written = left-at 24

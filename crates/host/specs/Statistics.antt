@@ -5,8 +5,8 @@ use mathlib.Core.List.{List, [], _∷_, _++_, append-assoc, append-nil}
 use native.Mathlib.Nat.{zero-add}
 use native.Mathlib.Numerals.{add-one}
 use native.Mathlib.Omega.{arith}
-use lib.ListN.{length, getD, take, drop, set, replicate, length-set, length-drop, length-replicate}
-use lib.Seq.{paste, paste-zero, paste-suc, sets, sets-eq, take-all, take-at, drop-at, getD-drop, drop-drop, take-paste, drop-paste, length-paste}
+use lib.ListN.{length, getD, take, drop, set, replicate, length-set, length-drop, length-replicate, take-append-drop}
+use lib.Seq.{paste, paste-zero, paste-suc, sets, sets-eq, drop-cons, take-all, take-at, drop-at, getD-drop, drop-drop, take-paste, drop-paste, length-paste}
 use Rattle.stats.specs.Stats.{fresh}
 use Rattle.stats.specs.declared.FeeStats.{FeeStats}
 
@@ -65,6 +65,23 @@ module _ (s : FeeStats) (r : List ℕ) (z : Sized s) where
 
   pub words-rest : drop 124 (statsWords s r) ≡ r
   words-rest = sym (drop-drop 4 120 (statsWords s r)) ∙ ap (drop 4) from-window
+
+-- ---- words that hold the same statistics are the same words
+
+as-words : (l : List ℕ) → 124 ≤ length l → statsWords (statsOf l) (drop 124 l) ≡ l
+unfolding statsWords statsOf
+as-words l h = ap (λ (r : List ℕ). take 60 l ++ (take 60 (drop 60 l) ++ r)) four ∙ ap (λ (r : List ℕ). take 60 l ++ (take 60 (drop 60 l) ++ r)) (sym (drop-drop 60 60 l)) ∙ ap (λ (r : List ℕ). take 60 l ++ r) (take-append-drop 60 (drop 60 l)) ∙ take-append-drop 60 l
+  where
+    four : getD l 120 0 ∷ getD l 121 0 ∷ getD l 122 0 ∷ getD l 123 0 ∷ drop 124 l ≡ drop 120 l
+    four =
+        sym
+        (drop-cons l 120 0 (omega arith)
+        ∙ ap (λ (r : List ℕ). getD l 120 0 ∷ r)
+        (drop-cons l 121 0 (omega arith)
+        ∙ ap (λ (r : List ℕ). getD l 121 0 ∷ r) (drop-cons l 122 0 (omega arith) ∙ ap (λ (r : List ℕ). getD l 122 0 ∷ r) (drop-cons l 123 0 (omega arith)))))
+
+pub same-stats : (l m : List ℕ) → 124 ≤ length l → length m ≡ length l → statsOf m ≡ statsOf l → drop 124 m ≡ drop 124 l → m ≡ l
+same-stats l m h k s r = sym (as-words m (omega arith)) ∙ ap (λ (x : FeeStats). statsWords x (drop 124 m)) s ∙ ap (statsWords (statsOf l)) r ∙ as-words l h
 
 -- ---- 60 words from an index on, copied word by word: to new bins, ..
 

@@ -8,10 +8,11 @@ use crate::layout::TX_WORDS;
 use crate::layout::load_state;
 use crate::layout::load_tx;
 use crate::layout::store_left;
+use crate::layout::too_few;
 use crate::statistics::STATS_WORDS;
 use crate::statistics::load_stats;
 use crate::statistics::store_stats;
-use blocks::apply_block_at;
+use blocks::apply_block_by_value;
 use returns::invalidate;
 use returns::return_to_pool;
 use words::ids::Id;
@@ -36,7 +37,7 @@ pub extern "C" fn gunthyd_return_to_pool(
         return 1;
     }
     if tx.len() < TX_WORDS {
-        return 1;
+        return too_few(state);
     }
     let mempool = load_state(state);
     let given = load_tx(tx);
@@ -94,7 +95,7 @@ fn apply(
 {
     let mempool = load_state(state);
     let before = load_stats(stats);
-    let applied = apply_block_at(
+    let applied = apply_block_by_value(
         entries,
         boxes,
         cache,
@@ -133,7 +134,7 @@ pub extern "C" fn gunthyd_apply_block_at(
         return 1;
     }
     if stats.len() < STATS_WORDS {
-        return 1;
+        return too_few(state);
     }
     apply(
         entries,

@@ -11,6 +11,7 @@ use pool_types::Submission;
 use pool_types::Sums;
 use pool_types::Verdict;
 use returns::UnconfirmedTx;
+use store::unfit;
 use words::ids::Id;
 use words::ids::put_id;
 ghost use mathlib.Core.Path.{_≡_};
@@ -22,7 +23,7 @@ ghost use Rattle.words.specs.Ids.{wordsAt};
 ghost use Rattle.entries.specs.Layout.{costOf};
 ghost use Rattle.host.specs.Host.{strategyOf};
 ghost use Rattle.host.specs.State.{lowHalf, configOf, countsOf, sumsOf, passOf, stateOf, sourceOf, verdictOf, submissionOf, leftWords};
-ghost use Rattle.host.specs.Stored.{passWords, Stored};
+ghost use Rattle.host.specs.Stored.{flagWord, halfWord, passWords, Stored};
 ghost use Rattle.host.specs.Starts.{Cleared};
 ghost use Rattle.host.specs.Changes.{txOf};
 
@@ -137,6 +138,27 @@ pub fn load_state(s: &[u64]) -> Mempool
     }
 }
 
+// What too few words of another list are answered with: an open pass is named first here too, ..
+pub fn too_few(s: &[u64]) -> u64
+    requires { ⌜ 25 ≤ length (now s) ⌝ }
+    ensures { λ r. ⌜ r ≡ pick (passOf (now (s .entry)) .«open») 20 1 ⌝ }
+{
+    let pass = load_pass(s);
+    unfit(pass.open)
+}
+
+// .. and that there is none before an answer buffer that is too short for an id.
+pub fn no_room(s: &[u64]) -> u64
+    requires { ⌜ 25 ≤ length (now s) ⌝ }
+    ensures { λ r. ⌜ r ≡ pick (passOf (now (s .entry)) .«open») 2 21 ⌝ }
+{
+    let pass = load_pass(s);
+    if pass.open {
+        return 2;
+    }
+    21
+}
+
 // What a submission changes: the counts, ..
 fn store_counts(s: &mut [u64], counts: Counts)
     requires { ⌜ 25 ≤ length (now s) ⌝ }
@@ -168,28 +190,45 @@ pub fn store_left(s: &mut [u64], mempool: Mempool, written: u64)
     s[24] = written;
 }
 
-fn flag(b: bool) -> u64
-    ensures { λ r. ⌜ r ≡ pick b 1 0 ⌝ }
+// A flag's word, where `was` stood: it stays where it says the same, ..
+fn flag_word(was: u64, b: bool) -> u64
+    ensures { λ r. ⌜ r ≡ flagWord was b ⌝ }
 {
-    if b {
+    if !b {
+        return 0;
+    }
+    if was == 0 {
         return 1;
     }
-    0
+    was
+}
+
+// .. and so does the word of 32 bits.
+fn half_word(was: u64, n: u32) -> u64
+    ensures { λ r. ⌜ r ≡ halfWord was n ⌝ }
+{
+    if low_half(was) == n {
+        return was;
+    }
+    n as u64
 }
 
 // A call of a pass changes the pass too, ..
 fn store_pass(s: &mut [u64], pass: Pass)
     requires { ⌜ 25 ≤ length (now s) ⌝ }
-    ensures { λ _. ⌜ now (s .exit) ≡ sets (now (s .entry)) 14 (passWords pass) ⌝ }
+    ensures { λ _. ⌜ now (s .exit) ≡ sets (now (s .entry)) 14 (passWords (now (s .entry)) pass) ⌝ }
     ensures { λ _. ⌜ lowHalf (pass .preheader) ≡ pass .preheader ⌝ }
 {
     let candidate = pass.candidate;
-    s[14] = flag(pass.open);
-    s[15] = flag(pass.out);
+    let open = flag_word(s[14], pass.open);
+    let out = flag_word(s[15], pass.out);
+    let preheader = half_word(s[22], pass.preheader);
+    s[14] = open;
+    s[15] = out;
     put_id(s, 16, candidate);
     s[20] = pass.time;
     s[21] = pass.limit;
-    s[22] = pass.preheader as u64;
+    s[22] = preheader;
     s[23] = pass.spent;
 }
 

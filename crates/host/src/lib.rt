@@ -74,10 +74,11 @@
 //     104 an input is missing, 105 invalid, 106 valid   select_for_rebroadcast: how many ids were written
 //     n refusal n; at 29 word 24 ids written            2^64-1-n refusal n
 //
-// Too few words of a state, of statistics, of a submission or of a transaction are refusal 1, less than 4 words of an answer buffer are refusal 2 of
-// next, and nothing changes. Start takes its settings from words 0 to 8 and clears 9 to 24; start_stats empties the statistics, their window at `time`;
-// open, next and answer change 9 to 24, and store a pass as it is decoded, refused or not: a flag as 0 or 1, a preheader without its high half; any
-// other changing call changes 9 to 13 and 24, and no other word of the state.
+// Too few words of a state are refusal 1. So are too few of statistics, of a submission or of a transaction, and less than 4 words of an answer buffer
+// are refusal 2 of next; but an open pass is named first there, with 20, and none with 21. Nothing changes then. Start takes its settings from words 0
+// to 8 and clears 9 to 24; start_stats empties the statistics, their window at `time`; open, next and answer change 9 to 24; any other changing call
+// changes 9 to 13 and 24, and no other word of the state. A refusal leaves every word that is lent, and of the state all but word 24; but for what 9,
+// 10, 29 and 30 say.
 pub mod changes;
 pub mod codes;
 pub mod fee_queries;
@@ -96,12 +97,13 @@ use crate::layout::load_state;
 use crate::layout::load_submission;
 use crate::layout::store_left;
 use crate::layout::strategy_of;
+use crate::layout::too_few;
 use entries::fields::entries_room;
 use entries::table::Place;
 use entries::table::find_entry;
 use mempool::start;
 use pool_types::StartOutcome;
-use process::process;
+use process::flat::process_words;
 use weight::fee_per_factor;
 use words::ids::Id;
 ghost use mathlib.Core.Path.{_≡_};
@@ -196,7 +198,7 @@ fn submit(
 {
     let mempool = load_state(state);
     let submission = load_submission(sub);
-    let processed = process(
+    let processed = process_words(
         entries,
         boxes,
         cache,
@@ -235,7 +237,7 @@ pub extern "C" fn gunthyd_process(
         return 1;
     }
     if sub.len() < SUBMISSION_WORDS {
-        return 1;
+        return too_few(state);
     }
     submit(
         entries,

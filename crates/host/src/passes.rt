@@ -4,6 +4,7 @@ use crate::codes::list_code;
 use crate::codes::open_code;
 use crate::layout::STATE_WORDS;
 use crate::layout::load_state;
+use crate::layout::no_room;
 use crate::layout::store_state;
 use crate::layout::verdict_of;
 use cleanup::answer;
@@ -62,7 +63,7 @@ pub extern "C" fn gunthyd_next(entries: &[u64], state: &mut [u64], answer: &mut 
         return 1;
     }
     if answer.len() < ID_WORDS {
-        return 2;
+        return no_room(state);
     }
     let mempool = load_state(state);
     let offered = next(entries, mempool);

@@ -26,13 +26,13 @@ same-length : tie.Need-same-length
 same-length c = search needs
 
 returns-2 : tie.Need-returns-2
-returns-2 c = start-ready _ _ _ _ _ (c .before .before .before .before .before .before .before .before .before .if1 .left) (c .before .before .before .before .before .before .before .load-config .ensures) (c .before .before .before .before .before .before .start .ensures) _ _ (c .before .before .before .before .enum-told .given .1) (c .before .before .clear .ensures)
+returns-2 c = start-ready _ _ _ _ _ (c .before .before .before .before .before .before .before .before .before .if1 .left) (c .before .before .before .before .before .before .before .load-config .ensures) (c .before .before .before .before .before .before .start .ensures .0) _ _ (c .before .before .before .before .enum-told .given .1) (c .before .before .clear .ensures)
 
 same-length-2 : tie.Need-same-length-2
 same-length-2 c = search needs
 
 returns-3 : tie.Need-returns-3
-returns-3 c = start-refused _ _ _ _ _ (c .before .before .before .before .before .before .if1 .left) (c .before .before .before .before .load-config .ensures) (c .before .before .before .start .ensures) _ (c .before .outcome .given .1)
+returns-3 c = start-refused _ _ _ _ _ (c .before .before .before .before .before .before .if1 .left) (c .before .before .before .before .load-config .ensures) (c .before .before .before .start .ensures .0) _ (c .before .outcome .given .1)
 
 pub gunthyd-start-spec : {M : Type 1} → statement M
 gunthyd-start-spec =

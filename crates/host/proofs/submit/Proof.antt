@@ -10,8 +10,8 @@ load-state-requires c κs = search needs
 load-submission-requires : tie.Need-load-submission-requires
 load-submission-requires c κs = search needs
 
-process-requires : tie.Need-process-requires
-process-requires c κs = search needs
+process-words-requires : tie.Need-process-words-requires
+process-words-requires c κs = search needs
 
 written-of-requires : tie.Need-written-of-requires
 written-of-requires c κs = search needs
@@ -41,7 +41,7 @@ same-length-6 : tie.Need-same-length-6
 same-length-6 c = search needs
 
 returns : tie.Need-returns
-returns c = ran-words _ _ _ _ _ _ _ _ (c .before .before .before .before .before .before .before .before .before .before .before .before .before .before .before .before .before .process .result) (c .before .before .before .before .before .before .before .before .before .before .before .before .before .before .before .before .before .before .before .before .before .before .before .before .before .before .before .before .before .before .before .before .before .before .before .pre .0) (c .before .before .before .before .before .before .before .before .before .before .before .before .before .before .before .before .before .before .before .before .before .before .before .before .load-state .ensures) (c .before .before .before .before .before .before .before .before .before .before .before .before .before .before .before .before .before .before .before .before .before .before .before .load-submission .ensures) (c .before .before .before .before .before .before .before .before .before .before .before .before .before .before .before .before .before .process .ensures .0) (c .before .before .before .store-left .ensures) (c .before .before .before .before .before .before .before .before .before .before .before .before .before .before .before .before .before .process .ensures .1) (c .code-of .ensures) (c .before .before .before .before .written-of .ensures)
+returns c = ran-words _ _ _ _ _ _ _ _ (c .before .before .before .before .before .before .before .before .before .before .before .before .before .before .before .before .before .process-words .result) (c .before .before .before .before .before .before .before .before .before .before .before .before .before .before .before .before .before .before .before .before .before .before .before .before .before .before .before .before .before .before .before .before .before .before .before .pre .0) (c .before .before .before .before .before .before .before .before .before .before .before .before .before .before .before .before .before .before .before .before .before .before .before .before .load-state .ensures) (c .before .before .before .before .before .before .before .before .before .before .before .before .before .before .before .before .before .before .before .before .before .before .before .load-submission .ensures) (c .before .before .before .before .before .before .before .before .before .before .before .before .before .before .before .before .before .process-words .ensures .0) (c .before .before .before .before .before .before .before .before .before .before .before .before .before .before .before .before .before .process-words .ensures .1) (c .before .before .before .before .before .before .before .before .before .before .before .before .before .before .before .before .before .process-words .ensures .2) (c .before .before .before .before .before .before .before .before .before .before .before .before .before .before .before .before .before .process-words .ensures .3) (c .before .before .before .before .before .before .before .before .before .before .before .before .before .before .before .before .before .process-words .ensures .4) (c .before .before .before .store-left .ensures) (c .code-of .ensures) (c .before .before .before .before .written-of .ensures)
 
 pub submit-spec : {M : Type 1} → statement M
 submit-spec =
@@ -49,7 +49,7 @@ submit-spec =
     (tie.spec
     load-state-requires
     load-submission-requires
-    process-requires
+    process-words-requires
     written-of-requires
     store-left-requires
     code-of-requires

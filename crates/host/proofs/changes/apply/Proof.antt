@@ -11,8 +11,8 @@ load-state-requires c κs = search needs
 load-stats-requires : tie.Need-load-stats-requires
 load-stats-requires c κs = search needs
 
-apply-block-at-requires : tie.Need-apply-block-at-requires
-apply-block-at-requires c κs = search needs
+apply-block-by-value-requires : tie.Need-apply-block-by-value-requires
+apply-block-by-value-requires c κs = search needs
 
 store-stats-requires : tie.Need-store-stats-requires
 store-stats-requires c κs = c .before .before .before .before .before .before .before .before .before .before .before .before .before .before .before .before .before .before .before .before .before .before .before .before .before .before .before .before .pre .1
@@ -45,7 +45,7 @@ same-length-6 : tie.Need-same-length-6
 same-length-6 c = search needs
 
 returns : tie.Need-returns
-returns c = block-words _ _ _ _ _ _ _ _ _ _ _ _ _ _ _ _ (c .before .before .before .before .before .before .before .before .before .before .before .before .before .before .before .before .before .before .before .before .apply-block-at .result) (c .before .before .before .before .before .before .before .before .before .before .before .before .before .before .before .before .before .before .before .before .before .before .before .before .before .before .before .before .before .before .before .before .before .before .before .before .before .pre .0) (c .before .before .before .before .before .before .before .before .before .before .before .before .before .before .before .before .before .before .before .before .before .before .before .before .before .before .before .load-state .ensures) (c .before .before .before .before .before .before .before .before .before .before .before .before .before .before .before .before .before .before .before .before .before .before .before .before .before .load-stats .ensures) (c .before .before .before .before .before .before .before .before .before .before .before .before .before .before .before .before .before .before .before .before .apply-block-at .ensures .0) (c .before .before .before .before .before .before .before .before .before .before .before .before .before .before .before .before .before .before .before .before .apply-block-at .ensures .1 .1) (c .before .before .before .before .before .before .before .before .store-stats .ensures) (c .before .before .before .store-left .ensures) (c .before .before .before .before .before .before .before .before .before .before .before .before .before .before .before .before .before .before .before .before .apply-block-at .ensures .1 .0) (c .block-code .ensures) (c .before .before .before .before .block-written .ensures)
+returns c = block-words _ _ _ _ _ _ _ _ _ _ _ _ _ _ _ _ (c .before .before .before .before .before .before .before .before .before .before .before .before .before .before .before .before .before .before .before .before .apply-block-by-value .result) (c .before .before .before .before .before .before .before .before .before .before .before .before .before .before .before .before .before .before .before .before .before .before .before .before .before .before .before .before .before .before .before .before .before .before .before .before .before .pre .0) (c .before .before .before .before .before .before .before .before .before .before .before .before .before .before .before .before .before .before .before .before .before .before .before .before .before .before .before .before .before .before .before .before .before .before .before .before .before .pre .1) (c .before .before .before .before .before .before .before .before .before .before .before .before .before .before .before .before .before .before .before .before .before .before .before .before .before .before .before .load-state .ensures) (c .before .before .before .before .before .before .before .before .before .before .before .before .before .before .before .before .before .before .before .before .before .before .before .before .before .load-stats .ensures) (c .before .before .before .before .before .before .before .before .before .before .before .before .before .before .before .before .before .before .before .before .apply-block-by-value .ensures .0) (c .before .before .before .before .before .before .before .before .before .before .before .before .before .before .before .before .before .before .before .before .apply-block-by-value .ensures .1 .1 .0 .0) (c .before .before .before .before .before .before .before .before .before .before .before .before .before .before .before .before .before .before .before .before .apply-block-by-value .ensures .1 .1 .0 .1) (c .before .before .before .before .before .before .before .before .before .before .before .before .before .before .before .before .before .before .before .before .apply-block-by-value .ensures .1 .1 .1 .0) (c .before .before .before .before .before .before .before .before .before .before .before .before .before .before .before .before .before .before .before .before .apply-block-by-value .ensures .1 .1 .1 .1) (c .before .before .before .before .before .before .before .before .store-stats .ensures) (c .before .before .before .store-left .ensures) (c .before .before .before .before .before .before .before .before .before .before .before .before .before .before .before .before .before .before .before .before .apply-block-by-value .ensures .1 .0) (c .block-code .ensures) (c .before .before .before .before .block-written .ensures)
 
 pub apply-spec : {M : Type 1} → statement M
 apply-spec =
@@ -53,7 +53,7 @@ apply-spec =
     (tie.spec
     load-state-requires
     load-stats-requires
-    apply-block-at-requires
+    apply-block-by-value-requires
     store-stats-requires
     block-written-requires
     store-left-requires

@@ -34,7 +34,7 @@ same-length-4 : tie.Need-same-length-4
 same-length-4 c = search needs
 
 returns-2 : tie.Need-returns-2
-returns-2 c = invalidate-words _ _ _ _ _ _ _ _ _ _ _ (c .before .before .before .before .before .before .before .before .before .before .before .before .invalidate .result) (c .before .before .before .before .before .before .before .before .before .before .before .before .before .before .before .before .before .before .if1 .left) (c .before .before .before .before .before .before .before .before .before .before .before .before .before .before .before .before .load-state .ensures) (c .before .before .before .before .before .before .before .before .before .before .before .before .invalidate .ensures .0) (c .before .before .before .before .before .before .before .before .before .before .before .before .invalidate .ensures .1 .1) (c .before .before .before .store-left .ensures) (c .before .before .before .before .before .before .before .before .before .before .before .before .invalidate .ensures .1 .0) (c .invalidate-code .ensures) (omega arith)
+returns-2 c = invalidate-words _ _ _ _ _ _ _ _ _ _ _ (c .before .before .before .before .before .before .before .before .before .before .before .before .invalidate .result) (c .before .before .before .before .before .before .before .before .before .before .before .before .before .before .before .before .before .before .if1 .left) (c .before .before .before .before .before .before .before .before .before .before .before .before .before .before .before .before .load-state .ensures) (c .before .before .before .before .before .before .before .before .before .before .before .before .invalidate .ensures .0) (c .before .before .before .before .before .before .before .before .before .before .before .before .invalidate .ensures .1 .1 .0) (c .before .before .before .before .before .before .before .before .before .before .before .before .invalidate .ensures .1 .1 .1) (c .before .before .before .store-left .ensures) (c .before .before .before .before .before .before .before .before .before .before .before .before .invalidate .ensures .1 .0) (c .invalidate-code .ensures) (omega arith)
 
 pub gunthyd-invalidate-spec : {M : Type 1} → statement M
 gunthyd-invalidate-spec =

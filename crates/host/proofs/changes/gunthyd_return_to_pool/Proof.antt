@@ -9,8 +9,14 @@ use Rattle.host.proofs.changes.gunthyd_return_to_pool.Tie as tie
 returns : tie.Need-returns
 returns c = return-few _ _ _ _ _ _ (c .if1 .taken)
 
+too-few-requires : tie.Need-too-few-requires
+too-few-requires c κs = search needs
+
+same-length : tie.Need-same-length
+same-length c = search needs
+
 returns-2 : tie.Need-returns-2
-returns-2 c = return-few-tx _ _ _ _ _ _ (c .if2 .taken)
+returns-2 c = return-few-tx _ _ _ _ _ _ (c .before .before .before .if1 .left) (c .before .before .if2 .taken) (c .too-few .ensures)
 
 load-state-requires : tie.Need-load-state-requires
 load-state-requires c κs = search needs
@@ -27,30 +33,32 @@ store-left-requires c κs = c .before .before .before .before .before .before .b
 return-code-requires : tie.Need-return-code-requires
 return-code-requires c κs = search needs
 
-same-length : tie.Need-same-length
-same-length c = search needs
-
 same-length-2 : tie.Need-same-length-2
 same-length-2 c = search needs
 
 same-length-3 : tie.Need-same-length-3
 same-length-3 c = search needs
 
+same-length-4 : tie.Need-same-length-4
+same-length-4 c = search needs
+
 returns-3 : tie.Need-returns-3
-returns-3 c = return-words _ _ _ _ _ _ _ _ _ _ (c .before .before .before .before .before .before .before .before .before .before .return-to-pool .result) (c .before .before .before .before .before .before .before .before .before .before .before .before .before .before .before .before .before .if1 .left) (c .before .before .before .before .before .before .before .before .before .before .before .before .before .before .before .before .if2 .left) (c .before .before .before .before .before .before .before .before .before .before .before .before .before .before .load-state .ensures) (c .before .before .before .before .before .before .before .before .before .before .before .before .before .load-tx .ensures) (c .before .before .before .before .before .before .before .before .before .before .return-to-pool .ensures .0) (c .before .before .before .before .before .before .before .before .before .before .return-to-pool .ensures .1 .1) (c .before .before .before .store-left .ensures) (c .before .before .before .before .before .before .before .before .before .before .return-to-pool .ensures .1 .0) (c .return-code .ensures) (omega arith)
+returns-3 c = return-words _ _ _ _ _ _ _ _ _ _ (c .before .before .before .before .before .before .before .before .before .before .return-to-pool .result) (c .before .before .before .before .before .before .before .before .before .before .before .before .before .before .before .before .before .if1 .left) (c .before .before .before .before .before .before .before .before .before .before .before .before .before .before .before .before .if2 .left) (c .before .before .before .before .before .before .before .before .before .before .before .before .before .before .load-state .ensures) (c .before .before .before .before .before .before .before .before .before .before .before .before .before .load-tx .ensures) (c .before .before .before .before .before .before .before .before .before .before .return-to-pool .ensures .0) (c .before .before .before .before .before .before .before .before .before .before .return-to-pool .ensures .1 .1 .0) (c .before .before .before .before .before .before .before .before .before .before .return-to-pool .ensures .1 .1 .1) (c .before .before .before .store-left .ensures) (c .before .before .before .before .before .before .before .before .before .before .return-to-pool .ensures .1 .0) (c .return-code .ensures) (omega arith)
 
 pub gunthyd-return-to-pool-spec : {M : Type 1} → statement M
 gunthyd-return-to-pool-spec =
     tie.close
     (tie.spec
     returns
+    too-few-requires
+    same-length
     returns-2
     load-state-requires
     load-tx-requires
     return-to-pool-requires
     store-left-requires
     return-code-requires
-    same-length
     same-length-2
     same-length-3
+    same-length-4
     returns-3)

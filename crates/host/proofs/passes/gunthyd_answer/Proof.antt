@@ -36,7 +36,7 @@ same-length-4 : tie.Need-same-length-4
 same-length-4 c = search needs
 
 returns-2 : tie.Need-returns-2
-returns-2 c = answer-words _ _ _ _ _ _ _ _ _ _ (c .before .before .before .before .before .before .before .before .before .before .before .before .answer .result) (c .before .before .before .before .before .before .before .before .before .before .before .before .before .before .before .before .before .before .before .if1 .left) (c .before .before .before .before .before .before .before .before .before .before .before .before .before .before .before .before .before .load-state .ensures) (c .before .before .before .before .before .before .before .before .before .before .before .before .before .before .before .before .verdict-of .ensures) (c .before .before .before .store-state .ensures) (c .before .before .before .before .before .before .before .before .before .before .before .before .answer .ensures .0) (c .before .before .before .before .before .before .before .before .before .before .before .before .answer .ensures .1 .1) (c .before .before .before .before .before .before .before .before .before .before .before .before .answer .ensures .1 .0) (c .answer-code .ensures)
+returns-2 c = answer-words _ _ _ _ _ _ _ _ _ _ (c .before .before .before .before .before .before .before .before .before .before .before .before .answer .result) (c .before .before .before .before .before .before .before .before .before .before .before .before .before .before .before .before .before .before .before .if1 .left) (c .before .before .before .before .before .before .before .before .before .before .before .before .before .before .before .before .before .load-state .ensures) (c .before .before .before .before .before .before .before .before .before .before .before .before .before .before .before .before .verdict-of .ensures) (c .before .before .before .store-state .ensures) (c .before .before .before .before .before .before .before .before .before .before .before .before .answer .ensures .0) (c .before .before .before .before .before .before .before .before .before .before .before .before .answer .ensures .1 .1 .0) (c .before .before .before .before .before .before .before .before .before .before .before .before .answer .ensures .1 .1 .1) (c .before .before .before .before .before .before .before .before .before .before .before .before .answer .ensures .1 .0) (c .answer-code .ensures)
 
 pub gunthyd-answer-spec : {M : Type 1} → statement M
 gunthyd-answer-spec =

@@ -24,7 +24,7 @@ same-length : tie.Need-same-length
 same-length c = search needs
 
 returns-2 : tie.Need-returns-2
-returns-2 c = open-words _ _ _ _ _ (c .before .before .before .before .before .before .«open» .result) (c .before .before .before .before .before .before .before .before .before .if1 .left) (c .before .before .before .before .before .before .before .load-state .ensures) (c .before .before .before .store-state .ensures) (c .before .before .before .before .before .before .«open» .ensures .0) (c .before .before .before .before .before .before .«open» .ensures .1 .1) (c .before .before .before .before .before .before .«open» .ensures .1 .0) (c .open-code .ensures)
+returns-2 c = open-words _ _ _ _ _ (c .before .before .before .before .before .before .«open» .result) (c .before .before .before .before .before .before .before .before .before .if1 .left) (c .before .before .before .before .before .before .before .load-state .ensures) (c .before .before .before .store-state .ensures) (c .before .before .before .before .before .before .«open» .ensures .0) (c .before .before .before .before .before .before .«open» .ensures .1 .1 .0) (c .before .before .before .before .before .before .«open» .ensures .1 .1 .1) (c .before .before .before .before .before .before .«open» .ensures .1 .0) (c .open-code .ensures)
 
 pub gunthyd-open-spec : {M : Type 1} → statement M
 gunthyd-open-spec =

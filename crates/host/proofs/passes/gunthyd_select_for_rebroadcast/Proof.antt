@@ -24,7 +24,7 @@ same-length : tie.Need-same-length
 same-length c = search needs
 
 returns-2 : tie.Need-returns-2
-returns-2 c = rebroadcast-words _ _ _ _ _ _ (c .before .before .before .select-for-rebroadcast .result) (c .before .before .before .before .before .before .if1 .left) (c .before .before .before .before .before .load-state .ensures) (c .before .before .before .select-for-rebroadcast .ensures .0) (c .before .before .before .select-for-rebroadcast .ensures .1 .0) (c .before .before .before .select-for-rebroadcast .ensures .1 .1) (c .list-code .ensures)
+returns-2 c = rebroadcast-words _ _ _ _ _ _ (c .before .before .before .select-for-rebroadcast .result) (c .before .before .before .before .before .before .if1 .left) (c .before .before .before .before .before .load-state .ensures) (c .before .before .before .select-for-rebroadcast .ensures .0) (c .before .before .before .select-for-rebroadcast .ensures .1 .0) (c .before .before .before .select-for-rebroadcast .ensures .1 .1 .0) (c .before .before .before .select-for-rebroadcast .ensures .1 .1 .1) (c .list-code .ensures)
 
 pub gunthyd-select-for-rebroadcast-spec : {M : Type 1} → statement M
 gunthyd-select-for-rebroadcast-spec =
