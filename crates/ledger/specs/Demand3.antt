@@ -73,8 +73,8 @@ CreditsChains g a ins outs (offers k) b after = Unit {0}
 CreditsChains g a ins outs (fails k) b after = Unit {0}
 CreditsChains g a ins outs tells b after = Unit {0}
 
--- ---- "a submission that no earlier check refused fails 24 exactly if it is remote and that total is at its limit or above, 25 exactly if remote and its
--- peer's sum is, 26 exactly if remote, its peer has had no charge since then and 256 others have"
+-- ---- "A submission that no earlier check refused fails 24 exactly if it is remote and that total is at its limit or above, 25 exactly if it is remote and
+-- its peer's sum is, and 26 exactly if it is remote, its peer has had no charge since then and 256 others have."
 
 -- it was refused with one of these numbers
 abbrev pub refusedBy : List ℕ → Reading → Bool
