@@ -18,13 +18,12 @@ use Rattle.entries.specs.Entries.{Entry, pooled}
 use Rattle.entries.specs.Entries.{weightOf as entryWeight, keyOf as entryId}
 use Rattle.entries.specs.InOrder.{Strict}
 use Rattle.boxes.specs.Among.{among}
-use Rattle.boxes.specs.Records.{BoxRec, Pair, index, inputsOf}
+use Rattle.boxes.specs.Records.{BoxRec, Pair, index, inputsOf, outputsOf}
 use Rattle.pool.specs.Pool.{Tables}
 use Rattle.family.specs.Chains.{over, chains}
 use Rattle.ledger.specs.Book.{Book, txWeight, walks, evicts, parentsIn}
 use Rattle.ledger.specs.Charges.{Charge, totalCharged, chargedTo, payers, Fair}
 use Rattle.ledger.specs.Ledger.{Call, Submit, Return, Block, Invalidate, Open, Next, Answer, Start, Ask, Ledger, visitCap, submittedBase, entered, Heard, told}
-use Rattle.ledger.specs.Uses.{outputsOf}
 use Rattle.ledger.specs.Run.{Moment, worldAt}
 
 -- ---- "the transactions .. exactly the ledger's": id, base, input and output box ids
