@@ -1,6 +1,6 @@
 -- What an admission leaves, way by way.
 use Prim.Native.Nat.{ℕ, suc, _+_, _≤_, _<_, min}
-use mathlib.Core.Path.{_≡_, refl, sym, ap, subst, _∙_}
+use mathlib.Core.Path.{_≡_, refl, sym, ap, ap₂, subst, _∙_}
 use mathlib.Core.Bool.{Bool, true, false}
 use mathlib.Core.List.{List, [], _∷_}
 use native.Mathlib.Nat.{zero-add}
@@ -122,10 +122,10 @@ settles room capacity (j ∷ ks) t e b r out a₀ a₁ a k p w v q =
 -- ---- 29, or the losers go
 
 module _ (visits room capacity : ℕ) (x : Entry) (ins outs ks : List ℕ) (t : Tables) where
-  pub contest-lost : (e b : List ℕ) (c : Counts) (a₀ a : List ℕ) (k n : ℕ) → Left e b c t → loses (x .base) ks (t .entries) ≡ true → k ≡ length ks → n ≡ min room k → Wrote a₀ a 0 ks
+  pub contest-lost : (e b : List ℕ) (c : Counts) (a₀ a : List ℕ) (k m n : ℕ) → Left e b c t → loses (x .base) ks (t .entries) ≡ true → k ≡ length ks → m ≡ room → n ≡ min m k → Wrote a₀ a 0 ks
       → Leaves e b (record { counts = c; outcome = DoubleSpendLoser n }) a₀ a (contested visits room capacity x ins outs ks t)
   unfolding contested processedOf
-  contest-lost e b c a₀ a k n l h p q w = rw h (record { left = l; outcome = ap (refused 29) (q ∙ ap (min room) p); wrote = w })
+  contest-lost e b c a₀ a k m n l h p r q w = rw h (record { left = l; outcome = ap (refused 29) (q ∙ ap₂ min r p); wrote = w })
 
   pub contest-won : (e b : List ℕ) (r : Admission) (a₀ a : List ℕ) (u : Tables) → loses (x .base) ks (t .entries) ≡ false → u ≡ removeAll ks t → Leaves e b r a₀ a (seated visits room capacity x ins outs ks u)
       → Leaves e b r a₀ a (contested visits room capacity x ins outs ks t)

@@ -48,7 +48,7 @@ returns : tie.Need-returns
 unfolding entryOf
 returns c =
     let l = c .before .before .before .before .before .before .before .before .before .before .before .before .before .conflicts .ensures in
-    (rw (← l .rows) (contest-lost _ _ _ _ _ _ _ _ _ _ _ _ _ _ _ (record { fits = room-fits _ _ _ _ (c .before .before .before .before .before .before .before .before .before .before .before .before .before .before .before .before .before .before .before .before .before .pre .0); tables = refl }) (sym (c .before .before .before .before .before .before .before .before .before .is-loser .ensures) ∙ c .before .before .before .before .before .before .before .before .if1 .taken) (l .count ∙ sym (ap length (l .rows))) (rw (c .before .before .before .before .before .before .places .ensures) at (c .before .before .before .before .before .smaller .ensures)) (c .before .before .write-ids .ensures)), spares-lost _ _ _ _ _ _ _)
+    (rw (← l .rows) (contest-lost _ _ _ _ _ _ _ _ _ _ _ _ _ _ _ _ (record { fits = room-fits _ _ _ _ (c .before .before .before .before .before .before .before .before .before .before .before .before .before .before .before .before .before .before .before .before .before .pre .0); tables = refl }) (sym (c .before .before .before .before .before .before .before .before .before .is-loser .ensures) ∙ c .before .before .before .before .before .before .before .before .if1 .taken) (l .count ∙ sym (ap length (l .rows))) (c .before .before .before .before .before .before .places .ensures) (c .before .before .before .before .before .smaller .ensures) (c .before .before .write-ids .ensures)), spares-lost _ _ _ _ _ _ _)
 
 slice-aggregate-remove-all : tie.Need-slice-aggregate-remove-all
 slice-aggregate-remove-all c = search needs
