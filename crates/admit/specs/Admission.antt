@@ -1,6 +1,6 @@
 -- What an admission leaves, way by way.
-use Prim.Native.Nat.{ℕ, suc, _+_, _≤_, _<_}
-use mathlib.Core.Path.{_≡_, refl, sym, ap, subst, _∙_}
+use Prim.Native.Nat.{ℕ, suc, _+_, _≤_, _<_, min}
+use mathlib.Core.Path.{_≡_, refl, sym, ap, ap₂, subst, _∙_}
 use mathlib.Core.Bool.{Bool, true, false}
 use mathlib.Core.List.{List, [], _∷_}
 use native.Mathlib.Nat.{zero-add}
@@ -26,9 +26,8 @@ use Rattle.entries.specs.Layout.{ok-still as entries-still, ok-fewer as entries
 use Rattle.entries.specs.Laws.{length-without}
 use Rattle.boxes.specs.Records.{dropOwner, index, conflicts}
 use Rattle.boxes.specs.Flat.{idsOf}
-use Rattle.boxes.specs.Layout.{boxesOf, room-still}
-use Rattle.boxes.specs.Layout.{ok-still as boxes-still}
-use Rattle.pool.specs.Pool.{Tables, tablesOf, PoolFits, Room, Made, Left, insertTx, removeTx, removeAll, evicted}
+use Rattle.boxes.specs.Layout.{room-still}
+use Rattle.pool.specs.Pool.{Tables, tablesOf, PoolFits, Room, Left, insertTx, removeTx, removeAll, evicted}
 use Rattle.family.specs.Family.{propagated}
 use Rattle.answers.specs.Answers.{Wrote, wrote-nothing, wrote-both}
 use Rattle.admit.specs.Admit.{Admitted, costOf, loses, crowded, newcomer, joined, settled, seated, contested, admitSpec}
@@ -47,25 +46,6 @@ pub record Leaves (e b : List ℕ) (r : Admission) (a₀ a : List ℕ) (s : Admi
 pub room-fits : (e b : List ℕ) (c : Counts) (needed : ℕ) → Room e b c needed → PoolFits e b c
 room-fits e b c needed r =
     record { entries = entries-fewer e (c .pooled) (c .pooled + 1) (r .entries) (omega arith); boxes = r .boxes }
-
--- room that was made is room, and the tables are the same
-module _ (e b m : List ℕ) (c d : Counts) (needed : ℕ) (k : Made b m c d needed) where
-  pub made-room : Room e b c needed → Room e m d needed
-  made-room r =
-      record {
-        entries = rw (k .pooled) (r .entries);
-        boxes = boxes-still m m (d .records) (d .records + needed) (k .slots .room) refl (omega arith);
-        free = rw (k .slots .rows, room-still b m (k .slots .kept)) (r .free);
-      }
-
-  made-tables : tablesOf e m d ≡ tablesOf e b c
-  made-tables = λ i. record { entries = entriesOf e (k .pooled i); boxes = k .slots .rows i }
-
-  pub made-leaves : (visits capacity : ℕ) (x : Entry) (ins outs e' b' : List ℕ) (r : Admission) (a₀ a : List ℕ)
-      → Leaves e' b' r a₀ a (contested visits capacity x ins outs (conflicts (index false (boxesOf m (d .records))) (idsOf 5 ins)) (tablesOf e m d))
-      → Leaves e' b' r a₀ a (contested visits capacity x ins outs (conflicts (index false (boxesOf b (c .records))) (idsOf 5 ins)) (tablesOf e b c))
-  made-leaves visits capacity x ins outs e' b' r a₀ a =
-      subst (λ (t : Tables). Leaves e' b' r a₀ a (contested visits capacity x ins outs (conflicts (index false (t .boxes)) (idsOf 5 ins)) t)) made-tables
 
 -- removals leave no more than there was, and so no less room
 length-keep : {A : Type 0} (p : A → Bool) (l : List A) → length (keep p l) ≤ length l
@@ -108,29 +88,29 @@ enters visits capacity at w x ins outs t u v e b r a₀ a p q = subst (λ (z : T
 
 -- ---- 30, or the newcomer settles
 
-module _ (visits capacity : ℕ) (x : Entry) (ins outs ks : List ℕ) (t : Tables) where
+module _ (visits room capacity : ℕ) (x : Entry) (ins outs ks : List ℕ) (t : Tables) where
   pub seat-crowded : (e b : List ℕ) (c : Counts) (a : List ℕ) → Left e b c t → crowded capacity (x .base) (t .entries) ≡ true
-      → Leaves e b (record { counts = c; outcome = Declined 30 }) a a (seated visits capacity x ins outs ks t)
+      → Leaves e b (record { counts = c; outcome = Declined 30 }) a a (seated visits room capacity x ins outs ks t)
   unfolding seated processedOf
   seat-crowded e b c a l h = rw h (record { left = l; outcome = refl; wrote = wrote-nothing a 0 })
 
-  pub seat-taken : (e b : List ℕ) (r : Admission) (a₀ a : List ℕ) → crowded capacity (x .base) (t .entries) ≡ false → Leaves e b r a₀ a (settled capacity ks (joined visits x ins outs t))
-      → Leaves e b r a₀ a (seated visits capacity x ins outs ks t)
+  pub seat-taken : (e b : List ℕ) (r : Admission) (a₀ a : List ℕ) → crowded capacity (x .base) (t .entries) ≡ false → Leaves e b r a₀ a (settled room capacity ks (joined visits x ins outs t))
+      → Leaves e b r a₀ a (seated visits room capacity x ins outs ks t)
   unfolding seated
   seat-taken e b r a₀ a h l = rw h l
 
 -- the ids of k losers are written, then those of the evicted: where there is a loser
-pub settles : (capacity : ℕ) (ks : List ℕ) (t : Tables) (e b : List ℕ) (r : Evicted) (out : ProcessingOutcome) (a₀ a₁ a : List ℕ) (k : ℕ) → k ≡ length ks
-    → Wrote a₀ a₁ 0 ks → Evicts capacity k (ltb 0 k) t e b r a₁ a → processedOf out ≡ pick (eqb k 0) done (wrote (k + r .n))
-    → Leaves e b (record { counts = r .counts; outcome = out }) a₀ a (settled capacity ks t)
+pub settles : (room capacity : ℕ) (ks : List ℕ) (t : Tables) (e b : List ℕ) (r : Evicted) (out : ProcessingOutcome) (a₀ a₁ a : List ℕ) (k : ℕ) → k ≡ length ks
+    → Wrote a₀ a₁ 0 ks → Evicts capacity k (ltb 0 k) t e b r a₁ a → processedOf out ≡ pick (eqb k 0) done (wrote (min room (k + r .n)))
+    → Leaves e b (record { counts = r .counts; outcome = out }) a₀ a (settled room capacity ks t)
 unfolding settled
-settles capacity [] t e b r out a₀ a₁ a k p w v q =
+settles room capacity [] t e b r out a₀ a₁ a k p w v q =
     record {
       left = v .left;
       outcome = q ∙ rw p;
       wrote = wrote-both a₀ a₁ a 0 0 [] [] refl w (rw p at (v .wrote));
     }
-settles capacity (j ∷ ks) t e b r out a₀ a₁ a k p w v q =
+settles room capacity (j ∷ ks) t e b r out a₀ a₁ a k p w v q =
     let h : 0 < k = rw p (omega arith) in
     let z : k ≡ 0 → ⊥ = omega arith in
     record {
@@ -141,32 +121,32 @@ settles capacity (j ∷ ks) t e b r out a₀ a₁ a k p w v q =
 
 -- ---- 29, or the losers go
 
-module _ (visits capacity : ℕ) (x : Entry) (ins outs ks : List ℕ) (t : Tables) where
-  pub contest-lost : (e b : List ℕ) (c : Counts) (a₀ a : List ℕ) (k : ℕ) → Left e b c t → loses (x .base) ks (t .entries) ≡ true → k ≡ length ks → Wrote a₀ a 0 ks
-      → Leaves e b (record { counts = c; outcome = DoubleSpendLoser k }) a₀ a (contested visits capacity x ins outs ks t)
+module _ (visits room capacity : ℕ) (x : Entry) (ins outs ks : List ℕ) (t : Tables) where
+  pub contest-lost : (e b : List ℕ) (c : Counts) (a₀ a : List ℕ) (k m n : ℕ) → Left e b c t → loses (x .base) ks (t .entries) ≡ true → k ≡ length ks → m ≡ room → n ≡ min m k → Wrote a₀ a 0 ks
+      → Leaves e b (record { counts = c; outcome = DoubleSpendLoser n }) a₀ a (contested visits room capacity x ins outs ks t)
   unfolding contested processedOf
-  contest-lost e b c a₀ a k l h p w = rw h (record { left = l; outcome = ap (refused 29) p; wrote = w })
+  contest-lost e b c a₀ a k m n l h p r q w = rw h (record { left = l; outcome = ap (refused 29) (q ∙ ap₂ min r p); wrote = w })
 
-  pub contest-won : (e b : List ℕ) (r : Admission) (a₀ a : List ℕ) (u : Tables) → loses (x .base) ks (t .entries) ≡ false → u ≡ removeAll ks t → Leaves e b r a₀ a (seated visits capacity x ins outs ks u)
-      → Leaves e b r a₀ a (contested visits capacity x ins outs ks t)
+  pub contest-won : (e b : List ℕ) (r : Admission) (a₀ a : List ℕ) (u : Tables) → loses (x .base) ks (t .entries) ≡ false → u ≡ removeAll ks t → Leaves e b r a₀ a (seated visits room capacity x ins outs ks u)
+      → Leaves e b r a₀ a (contested visits room capacity x ins outs ks t)
   unfolding contested
   contest-won e b r a₀ a u h p l = rw (h, ← p) l
 
   -- there is nobody to contest with
-  pub contest-free : (js : List ℕ) (e b : List ℕ) (r : Admission) (a₀ a : List ℕ) → ks ≡ [] → js ≡ [] → Leaves e b r a₀ a (seated visits capacity x ins outs js t) → Leaves e b r a₀ a (contested visits capacity x ins outs ks t)
+  pub contest-free : (js : List ℕ) (e b : List ℕ) (r : Admission) (a₀ a : List ℕ) → ks ≡ [] → js ≡ [] → Leaves e b r a₀ a (seated visits room capacity x ins outs js t) → Leaves e b r a₀ a (contested visits room capacity x ins outs ks t)
   unfolding contested loses
   contest-free js e b r a₀ a p q l = rw p (rw q at l)
 
 -- ---- 10, or the contest
 
-module _ (visits : ℕ) (g : MempoolConfig) (t : Tables) (a : Submission) (c : ℕ) (ins outs : List ℕ) (fee : ℕ) (p : fee ≡ feeOf outs) where
+module _ (visits room : ℕ) (g : MempoolConfig) (t : Tables) (a : Submission) (c : ℕ) (ins outs : List ℕ) (fee : ℕ) (p : fee ≡ feeOf outs) where
   pub fee-refused : (e b : List ℕ) (d : Counts) (a₀ : List ℕ) → Left e b d t → fee < g .«min_fee»
-      → Leaves e b (record { counts = d; outcome = Declined 10 }) a₀ a₀ (admitSpec visits g t a c ins outs)
+      → Leaves e b (record { counts = d; outcome = Declined 10 }) a₀ a₀ (admitSpec visits room g t a c ins outs)
   unfolding admitSpec processedOf
   fee-refused e b d a₀ l h = rw (← p, lt-ltb fee (g .«min_fee») h) (record { left = l; outcome = refl; wrote = wrote-nothing a₀ 0 })
 
   module _ (e b : List ℕ) (r : Admission) (a₀ a₁ : List ℕ) (h : g .«min_fee» ≤ fee) (x : Entry) (base cost : ℕ) (k : cost ≡ costOf c (a .size)) (q : base ≡ feePerFactor (g .«fee_strategy») fee (a .size) cost) (o : x ≡ newcomer a c base ins outs) where
-    pub fee-contested : Leaves e b r a₀ a₁ (contested visits (g .capacity) x ins outs (conflicts (index false (t .boxes)) (idsOf 5 ins)) t) → Leaves e b r a₀ a₁ (admitSpec visits g t a c ins outs)
+    pub fee-contested : Leaves e b r a₀ a₁ (contested visits room (g .capacity) x ins outs (conflicts (index false (t .boxes)) (idsOf 5 ins)) t) → Leaves e b r a₀ a₁ (admitSpec visits room g t a c ins outs)
     unfolding admitSpec
     fee-contested l = rw (← p, le-ltb fee (g .«min_fee») h, ← k, ← q, ← o) l
 

@@ -1,6 +1,6 @@
 -- What follows the tests of a submission with a valid verdict (document 01, "A submission"): "a remote peer is charged; 10; 29; losers go; 30;
 -- insert, credits, eviction of the lowest until the capacity is met." Here from 10 on; the block sum after the charge stands beside it.
-use Prim.Native.Nat.{ℕ, _+_, max}
+use Prim.Native.Nat.{ℕ, _+_, min, max}
 use mathlib.Core.Path.{_≡_, refl}
 use mathlib.Core.Bool.{Bool, true, false, not, _&&_}
 use mathlib.Core.List.{List, [], _∷_, _++_}
@@ -84,34 +84,35 @@ joined visits e ins outs t = propagated visits (e .base) (e .id) (insertTx e (id
 
 -- ---- the whole
 
--- what an admission comes to: the outcome, both tables, and the ids that go to the answer buffer, from its first place on
+-- what an admission comes to: the outcome, both tables, and the ids that go to the answer buffer, from its first place on. An id without a place
+-- is not written: an outcome counts no more ids than `room`, the places of the buffer
 pub record Admitted : Type 0 where
   pub outcome : Outcome
   pub tables : Tables
   pub written : List ℕ
 
 -- "`Accepted` names no evicted ids; `Replaced` lists conflicts, then evicted. The newcomer itself can be evicted."
-unfoldable pub settled : ℕ → List ℕ → Tables → Admitted
-settled capacity [] t = record { outcome = done; tables = evict capacity t; written = [] }
-settled capacity (k ∷ ks) t =
+unfoldable pub settled : ℕ → ℕ → List ℕ → Tables → Admitted
+settled room capacity [] t = record { outcome = done; tables = evict capacity t; written = [] }
+settled room capacity (k ∷ ks) t =
     record {
-      outcome = wrote (length (k ∷ ks) + length (evicted capacity t));
+      outcome = wrote (min room (length (k ∷ ks) + length (evicted capacity t)));
       tables = evict capacity t;
       written = (k ∷ ks) ++ evicted capacity t;
     }
 
 -- the newcomer e with these inputs and outputs, against a capacity
-module _ (visits capacity : ℕ) (e : Entry) (ins outs : List ℕ) where
+module _ (visits room capacity : ℕ) (e : Entry) (ins outs : List ℕ) where
   -- after the losers ks went. 30: "charge and removal of losers stand"
   unfoldable pub seated : List ℕ → Tables → Admitted
   seated ks t =
       pick (crowded capacity (e .base) (t .entries)) (record { outcome = refused 30 0; tables = t; written = [] })
-      (settled capacity ks (joined visits e ins outs t))
+      (settled room capacity ks (joined visits e ins outs t))
 
   -- 29: "their ids are written, the charge stands"; else "losers go"
   unfoldable pub contested : List ℕ → Tables → Admitted
   contested ks t =
-      pick (loses (e .base) ks (t .entries)) (record { outcome = refused 29 (length ks); tables = t; written = ks })
+      pick (loses (e .base) ks (t .entries)) (record { outcome = refused 29 (min room (length ks)); tables = t; written = ks })
       (seated ks (removeAll ks t))
 
 -- its base
@@ -119,10 +120,10 @@ abbrev pub baseOf : MempoolConfig → Submission → ℕ → List ℕ → ℕ
 baseOf g a c outs = feePerFactor (g .«fee_strategy») (feeOf outs) (a .size) (costOf c (a .size))
 
 -- 10: "fee below minimum; the charge stands". "Conflicts are listed by first input."
-unfoldable pub admitSpec : ℕ → MempoolConfig → Tables → Submission → ℕ → List ℕ → List ℕ → Admitted
-admitSpec visits g t a c ins outs =
+unfoldable pub admitSpec : ℕ → ℕ → MempoolConfig → Tables → Submission → ℕ → List ℕ → List ℕ → Admitted
+admitSpec visits room g t a c ins outs =
     pick (ltb (feeOf outs) (g .«min_fee»)) (record { outcome = refused 10 0; tables = t; written = [] })
-    (contested visits (g .capacity) (newcomer a c (baseOf g a c outs) ins outs) ins outs (conflicts (index false (t .boxes)) (idsOf 5 ins)) t)
+    (contested visits room (g .capacity) (newcomer a c (baseOf g a c outs) ins outs) ins outs (conflicts (index false (t .boxes)) (idsOf 5 ins)) t)
 
 -- ---- on the edges
 
@@ -151,9 +152,14 @@ crowds = (refl, refl, refl, refl)
 abbrev pool : Tables
 pool = record { entries = two; boxes = [] }
 
-lists : (settled 1 (7 ∷ []) pool ≡ record { outcome = wrote 2; tables = record { entries = sample 1 15 ∷ []; boxes = [] }; written = 7 ∷ 2 ∷ [] }) × (settled 0 [] pool ≡ record { outcome = done; tables = record { entries = []; boxes = [] }; written = [] })
+lists : (settled 2 1 (7 ∷ []) pool ≡ record { outcome = wrote 2; tables = record { entries = sample 1 15 ∷ []; boxes = [] }; written = 7 ∷ 2 ∷ [] }) × (settled 2 0 [] pool ≡ record { outcome = done; tables = record { entries = []; boxes = [] }; written = [] })
 unfolding settled
 lists = (refl, refl)
+
+-- a buffer of one place holds one of two
+told : settled 1 1 (7 ∷ []) pool .outcome ≡ wrote 1
+unfolding settled
+told = refl
 
 -- "Capacity 0, empty pool: `Accepted`, pool empty"
 abbrev none : Tables
@@ -176,6 +182,6 @@ settings =
 abbrev offered : Submission
 offered = record { time = 5; id = record { a = 0; b = 0; c = 0; d = 3 }; size = 300; preheader = 1; source = Local; verdict = Valid 500 }
 
-no-capacity : admitSpec 500 settings none offered 500 [] [] ≡ record { outcome = done; tables = none; written = [] }
+no-capacity : admitSpec 500 1 settings none offered 500 [] [] ≡ record { outcome = done; tables = none; written = [] }
 unfolding admitSpec contested seated settled joined newcomer loses crowded feeOf idsTo
 no-capacity = refl

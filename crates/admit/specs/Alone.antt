@@ -44,6 +44,6 @@ module _ (e b m o : List ℕ) (c d : Counts) (x : Entry) (ins outs : List ℕ) (
       (p ∙ sym (propagated-none visits (x .base) (x .id) (insertTx x (idsOf 5 ins) (idsOf 7 outs) (tablesOf e b c)) (alone-parents (x .id) (idsOf 5 ins) (idsOf 7 outs) (q .own) (boxesOf b (c .records)) (q .alone))))
 
 -- it is accepted, and nothing is written
-pub settles-alone : (capacity : ℕ) (t : Tables) (e b : List ℕ) (r : Evicted) (a₀ a : List ℕ) → Evicts capacity 0 false t e b r a₀ a → Leaves e b (record { counts = r .counts; outcome = Accepted }) a₀ a (settled capacity [] t)
+pub settles-alone : (room capacity : ℕ) (t : Tables) (e b : List ℕ) (r : Evicted) (a₀ a : List ℕ) → Evicts capacity 0 false t e b r a₀ a → Leaves e b (record { counts = r .counts; outcome = Accepted }) a₀ a (settled room capacity [] t)
 unfolding processedOf
-settles-alone capacity t e b r a₀ a v = settles capacity [] t e b r Accepted a₀ a₀ a 0 refl (wrote-nothing a₀ 0) v refl
+settles-alone room capacity t e b r a₀ a v = settles room capacity [] t e b r Accepted a₀ a₀ a 0 refl (wrote-nothing a₀ 0) v refl

@@ -2,4 +2,6 @@ pub mod Admit
 pub mod Contests
 pub mod Evictions
 pub mod Admission
+pub mod Spares
+pub mod Placed
 pub mod Alone

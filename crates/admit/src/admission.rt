@@ -4,6 +4,7 @@ use crate::evictions::Evicted;
 use crate::evictions::evict_to;
 use crate::evictions::is_crowded;
 use crate::evictions::lowest_or;
+use answers::places;
 use answers::write_ids;
 use arguments::FeeSum;
 use arguments::count_records;
@@ -14,10 +15,11 @@ use entries::fields::ValidationCost;
 use family::propagate_family_weight;
 use indexes::conflicts::any_spent;
 use indexes::conflicts::conflicts;
+use indexes::quiet::Quiet;
 use indexes::quiet::scan;
 use pool::insert;
 use pool::insert_alone;
-use pool::make_room;
+use pool::is_ready;
 use pool::remove_all;
 use pool_types::Counts;
 use pool_types::MempoolConfig;
@@ -28,10 +30,11 @@ use weight::fee_per_factor;
 use words::ids::Id;
 use words::sums::saturating_add;
 ghost use mathlib.Core.Path.{_≡_};
-ghost use mathlib.Core.Bool.{false};
+ghost use mathlib.Core.Bool.{true, false};
 ghost use mathlib.Core.List.{[]};
-ghost use Prim.Native.Nat.{_+_, _≤_};
+ghost use Prim.Native.Nat.{_+_, _/_, _≤_, min};
 ghost use lib.Dec.{eqb};
+ghost use lib.ListN.{length};
 ghost use Rattle.words.specs.Lists.{pick};
 ghost use Rattle.words.specs.Ids.{idOf};
 ghost use Rattle.words.specs.Sums.{cap};
@@ -46,6 +49,8 @@ ghost use Rattle.pool.specs.Pool.{Room, tablesOf};
 ghost use Rattle.admit.specs.Admit.{costOf, chargedSum, newcomer, joined, seated, contested, admitSpec};
 ghost use Rattle.admit.specs.Evictions.{Evicts};
 ghost use Rattle.admit.specs.Admission.{Leaves};
+ghost use Rattle.admit.specs.Spares.{SparesWords, Unmoved};
+ghost use Rattle.admit.specs.Placed.{writtenOf};
 
 // More inputs were refused with 7.
 const MAX_TX_INPUTS: usize = 5000;
@@ -168,13 +173,20 @@ fn enter_alone(
     )
 }
 
-fn outcome_of(losers: usize, written: usize) -> ProcessingOutcome
-    ensures { λ r. ⌜ processedOf r ≡ pick (eqb losers 0) done (wrote written) ⌝ }
+fn smaller(a: usize, b: usize) -> usize
+    ensures { λ r. ⌜ r ≡ min a b ⌝ }
+{
+    if a < b { a } else { b }
+}
+
+// Where so many losers went: of the ids that were to be written those are counted that the answer buffer has room for.
+fn outcome_of(losers: usize, written: usize, room: usize) -> ProcessingOutcome
+    ensures { λ r. ⌜ processedOf r ≡ pick (eqb losers 0) done (wrote (min room written)) ⌝ }
 {
     if losers == 0 {
         ProcessingOutcome::Accepted
     } else {
-        ProcessingOutcome::Replaced(written)
+        ProcessingOutcome::Replaced(smaller(room, written))
     }
 }
 
@@ -193,7 +205,8 @@ fn seat(
 ) -> Admission
     requires { ⌜ Room (now entries) (now boxes) counts (countOf 5 (now inputs) + countOf 7 (now outputs)) ⌝ }
     requires { ⌜ (k ≤ countOf 4 (now list)) × (k ≤ 5000) ⌝ }
-    ensures { λ r. ⌜ Leaves (now (entries .exit)) (now (boxes .exit)) r (now (answer .entry)) (now (answer .exit)) (seated 500 capacity (entryOf e) (now (inputs .entry)) (now (outputs .entry)) (idsTo 4 (now (list .entry)) k) (tablesOf (now (entries .entry)) (now (boxes .entry)) counts)) ⌝ }
+    ensures { λ r. ⌜ Leaves (now (entries .exit)) (now (boxes .exit)) r (now (answer .entry)) (now (answer .exit)) (seated 500 (length (now (answer .entry)) / 4) capacity (entryOf e) (now (inputs .entry)) (now (outputs .entry)) (idsTo 4 (now (list .entry)) k) (tablesOf (now (entries .entry)) (now (boxes .entry)) counts)) ⌝ }
+    ensures { λ r. ⌜ Unmoved (now (entries .entry)) (now (boxes .entry)) (now (answer .entry)) counts (now (entries .exit)) (now (boxes .exit)) (now (answer .exit)) r ⌝ }
 {
     if is_crowded(entries, counts, capacity, e.base) {
         return Admission {
@@ -201,6 +214,7 @@ fn seat(
             outcome: ProcessingOutcome::Declined(30),
         };
     }
+    let room = places(answer);
     write_ids(answer, 0, list, k);
     let left = enter(
         entries,
@@ -217,7 +231,7 @@ fn seat(
     let after = left.counts;
     Admission {
         counts: after,
-        outcome: outcome_of(k, k + left.n),
+        outcome: outcome_of(k, k + left.n, room),
     }
 }
 
@@ -238,7 +252,8 @@ fn seat_alone(
     requires { ⌜ Room (now entries) (now boxes) counts (countOf 5 (now inputs) + countOf 7 (now outputs)) ⌝ }
     requires { ⌜ Quietly (now boxes) (counts .records) first last (idOf (e .id)) (idOf low) (idsOf 5 (now inputs)) (idsOf 7 (now outputs)) ⌝ }
     requires { ⌜ BoxesOk (now boxes) (counts .records + (countOf 5 (now inputs) + countOf 7 (now outputs))) ⌝ }
-    ensures { λ r. ⌜ Leaves (now (entries .exit)) (now (boxes .exit)) r (now (answer .entry)) (now (answer .exit)) (seated 500 capacity (entryOf e) (now (inputs .entry)) (now (outputs .entry)) [] (tablesOf (now (entries .entry)) (now (boxes .entry)) counts)) ⌝ }
+    ensures { λ r. ⌜ Leaves (now (entries .exit)) (now (boxes .exit)) r (now (answer .entry)) (now (answer .exit)) (seated 500 (length (now (answer .entry)) / 4) capacity (entryOf e) (now (inputs .entry)) (now (outputs .entry)) [] (tablesOf (now (entries .entry)) (now (boxes .entry)) counts)) ⌝ }
+    ensures { λ r. ⌜ Unmoved (now (entries .entry)) (now (boxes .entry)) (now (answer .entry)) counts (now (entries .exit)) (now (boxes .exit)) (now (answer .exit)) r ⌝ }
 {
     if is_crowded(entries, counts, capacity, e.base) {
         return Admission {
@@ -279,15 +294,18 @@ fn contest(
 ) -> Admission
     requires { ⌜ Room (now entries) (now boxes) counts (countOf 5 (now inputs) + countOf 7 (now outputs)) ⌝ }
     requires { ⌜ countOf 5 (now inputs) ≤ 5000 ⌝ }
-    ensures { λ r. ⌜ Leaves (now (entries .exit)) (now (boxes .exit)) r (now (answer .entry)) (now (answer .exit)) (contested 500 capacity (entryOf e) (now (inputs .entry)) (now (outputs .entry)) (conflicts (index false (boxesOf (now (boxes .entry)) (counts .records))) (idsOf 5 (now (inputs .entry)))) (tablesOf (now (entries .entry)) (now (boxes .entry)) counts)) ⌝ }
+    ensures { λ r. ⌜ Leaves (now (entries .exit)) (now (boxes .exit)) r (now (answer .entry)) (now (answer .exit)) (contested 500 (length (now (answer .entry)) / 4) capacity (entryOf e) (now (inputs .entry)) (now (outputs .entry)) (conflicts (index false (boxesOf (now (boxes .entry)) (counts .records))) (idsOf 5 (now (inputs .entry)))) (tablesOf (now (entries .entry)) (now (boxes .entry)) counts)) ⌝ }
+    ensures { λ r. ⌜ SparesWords (conflicts (index false (boxesOf (now (boxes .entry)) (counts .records))) (idsOf 5 (now (inputs .entry)))) (now (entries .entry)) (now (boxes .entry)) (now (answer .entry)) counts (now (entries .exit)) (now (boxes .exit)) (now (answer .exit)) r ⌝ }
 {
     let mut list = [0u64; CONFLICT_WORDS];
     let k = conflicts(boxes, counts.records, inputs, 5, &mut list);
     if is_loser(entries, counts.pooled, e.base, &list, k) {
+        let room = places(answer);
+        let told = smaller(room, k);
         write_ids(answer, 0, &list, k);
         return Admission {
             counts,
-            outcome: ProcessingOutcome::DoubleSpendLoser(k),
+            outcome: ProcessingOutcome::DoubleSpendLoser(told),
         };
     }
     let left = remove_all(entries, boxes, counts, &list, k);
@@ -305,6 +323,30 @@ fn contest(
     )
 }
 
+// Whether the newcomer stands alone, told in one scan. It is not asked where an insertion would move the records together: what the scan tells of
+// their slots holds only while they stay.
+fn stands_alone(
+    boxes: &[u64],
+    counts: Counts,
+    id: Id,
+    low: Id,
+    inputs: &[u64],
+    outputs: &[u64],
+) -> Quiet
+    requires { ⌜ BoxesOk (now boxes) (counts .records) ⌝ }
+    ensures { λ r. ⌜ (r .yes ≡ true → Quietly (now (boxes .entry)) (counts .records) (r .first) (r .last) (idOf id) (idOf low) (idsOf 5 (now (inputs .entry))) (idsOf 7 (now (outputs .entry))) × BoxesOk (now (boxes .entry)) (counts .records + (countOf 5 (now (inputs .entry)) + countOf 7 (now (outputs .entry))))) ⌝ }
+{
+    let needed = count_records(inputs, 5) + count_records(outputs, 7);
+    if !is_ready(boxes, counts, needed) {
+        return Quiet {
+            yes: false,
+            first: 0,
+            last: 0,
+        };
+    }
+    scan(boxes, counts.records, id, low, inputs, 5, outputs, 7)
+}
+
 // Whether the newcomer stands alone, or has nobody to contest with, is told in one scan each: most do, and no list is cleared for them.
 fn find_place(
     entries: &mut [u64],
@@ -317,12 +359,13 @@ fn find_place(
     answer: &mut [u64],
 ) -> Admission
     requires { ⌜ Room (now entries) (now boxes) counts (countOf 5 (now inputs) + countOf 7 (now outputs)) ⌝ }
-    requires { ⌜ (countOf 5 (now inputs) ≤ 5000) × BoxesOk (now boxes) (counts .records + (countOf 5 (now inputs) + countOf 7 (now outputs))) ⌝ }
-    ensures { λ r. ⌜ Leaves (now (entries .exit)) (now (boxes .exit)) r (now (answer .entry)) (now (answer .exit)) (contested 500 capacity (entryOf e) (now (inputs .entry)) (now (outputs .entry)) (conflicts (index false (boxesOf (now (boxes .entry)) (counts .records))) (idsOf 5 (now (inputs .entry)))) (tablesOf (now (entries .entry)) (now (boxes .entry)) counts)) ⌝ }
+    requires { ⌜ countOf 5 (now inputs) ≤ 5000 ⌝ }
+    ensures { λ r. ⌜ Leaves (now (entries .exit)) (now (boxes .exit)) r (now (answer .entry)) (now (answer .exit)) (contested 500 (length (now (answer .entry)) / 4) capacity (entryOf e) (now (inputs .entry)) (now (outputs .entry)) (conflicts (index false (boxesOf (now (boxes .entry)) (counts .records))) (idsOf 5 (now (inputs .entry)))) (tablesOf (now (entries .entry)) (now (boxes .entry)) counts)) ⌝ }
+    ensures { λ r. ⌜ SparesWords (conflicts (index false (boxesOf (now (boxes .entry)) (counts .records))) (idsOf 5 (now (inputs .entry)))) (now (entries .entry)) (now (boxes .entry)) (now (answer .entry)) counts (now (entries .exit)) (now (boxes .exit)) (now (answer .exit)) r ⌝ }
 {
     let id = e.id;
     let low = lowest_or(entries, counts, id);
-    let q = scan(boxes, counts.records, id, low, inputs, 5, outputs, 7);
+    let q = stands_alone(boxes, counts, id, low, inputs, outputs);
     if q.yes {
         return seat_alone(
             entries,
@@ -356,26 +399,6 @@ fn find_place(
     )
 }
 
-// Room is made for the newcomer's records before the scan: once it has told where the lowest's records stand, none may be moved.
-fn place(
-    entries: &mut [u64],
-    boxes: &mut [u64],
-    counts: Counts,
-    e: PoolEntry,
-    inputs: &[u64],
-    outputs: &[u64],
-    capacity: usize,
-    answer: &mut [u64],
-) -> Admission
-    requires { ⌜ Room (now entries) (now boxes) counts (countOf 5 (now inputs) + countOf 7 (now outputs)) ⌝ }
-    requires { ⌜ countOf 5 (now inputs) ≤ 5000 ⌝ }
-    ensures { λ r. ⌜ Leaves (now (entries .exit)) (now (boxes .exit)) r (now (answer .entry)) (now (answer .exit)) (contested 500 capacity (entryOf e) (now (inputs .entry)) (now (outputs .entry)) (conflicts (index false (boxesOf (now (boxes .entry)) (counts .records))) (idsOf 5 (now (inputs .entry)))) (tablesOf (now (entries .entry)) (now (boxes .entry)) counts)) ⌝ }
-{
-    let needed = count_records(inputs, 5) + count_records(outputs, 7);
-    let ready = make_room(boxes, counts, needed);
-    find_place(entries, boxes, ready, e, inputs, outputs, capacity, answer)
-}
-
 // 10, or the newcomer that pays this fee takes a place.
 fn offer(
     entries: &mut [u64],
@@ -391,7 +414,8 @@ fn offer(
 ) -> Admission
     requires { ⌜ Room (now entries) (now boxes) counts (countOf 5 (now inputs) + countOf 7 (now outputs)) ⌝ }
     requires { ⌜ (countOf 5 (now inputs) ≤ 5000) × (fee ≡ feeOf (now outputs)) ⌝ }
-    ensures { λ r. ⌜ Leaves (now (entries .exit)) (now (boxes .exit)) r (now (answer .entry)) (now (answer .exit)) (admitSpec 500 config (tablesOf (now (entries .entry)) (now (boxes .entry)) counts) sub cost (now (inputs .entry)) (now (outputs .entry))) ⌝ }
+    ensures { λ r. ⌜ Leaves (now (entries .exit)) (now (boxes .exit)) r (now (answer .entry)) (now (answer .exit)) (admitSpec 500 (length (now (answer .entry)) / 4) config (tablesOf (now (entries .entry)) (now (boxes .entry)) counts) sub cost (now (inputs .entry)) (now (outputs .entry))) ⌝ }
+    ensures { λ r. ⌜ SparesWords (conflicts (index false (boxesOf (now (boxes .entry)) (counts .records))) (idsOf 5 (now (inputs .entry)))) (now (entries .entry)) (now (boxes .entry)) (now (answer .entry)) counts (now (entries .exit)) (now (boxes .exit)) (now (answer .exit)) r ⌝ }
 {
     if fee < config.min_fee {
         return Admission {
@@ -402,7 +426,7 @@ fn offer(
     let strategy = config.fee_strategy;
     let base = fee_per_factor(fee, sub.size, cost_of(cost, sub.size), strategy);
     let e = newcomer(sub, cost, base, inputs, outputs);
-    place(
+    find_place(
         entries,
         boxes,
         counts,
@@ -428,7 +452,9 @@ pub fn admit(
 ) -> Admission
     requires { ⌜ Room (now entries) (now boxes) counts (countOf 5 (now inputs) + countOf 7 (now outputs)) ⌝ }
     requires { ⌜ (countOf 5 (now inputs) ≤ 5000) × (feeOf (now outputs) ≤ cap) ⌝ }
-    ensures { λ r. ⌜ Leaves (now (entries .exit)) (now (boxes .exit)) r (now (answer .entry)) (now (answer .exit)) (admitSpec 500 config (tablesOf (now (entries .entry)) (now (boxes .entry)) counts) sub cost (now (inputs .entry)) (now (outputs .entry))) ⌝ }
+    ensures { λ r. ⌜ Leaves (now (entries .exit)) (now (boxes .exit)) r (now (answer .entry)) (now (answer .exit)) (admitSpec 500 (length (now (answer .entry)) / 4) config (tablesOf (now (entries .entry)) (now (boxes .entry)) counts) sub cost (now (inputs .entry)) (now (outputs .entry))) ⌝ }
+    ensures { λ r. ⌜ SparesWords (conflicts (index false (boxesOf (now (boxes .entry)) (counts .records))) (idsOf 5 (now (inputs .entry)))) (now (entries .entry)) (now (boxes .entry)) (now (answer .entry)) counts (now (entries .exit)) (now (boxes .exit)) (now (answer .exit)) r ⌝ }
+    ensures { λ r. ⌜ writtenOf (processedOf (r .outcome)) ≤ length (now (answer .entry)) / 4 ⌝ }
 {
     match extract_fee(outputs) {
         FeeSum::Sum(fee) => offer(

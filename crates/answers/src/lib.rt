@@ -2,12 +2,20 @@
 use boxes::lists::id_at;
 use words::ids::Id;
 use words::ids::put_id;
+ghost use mathlib.Core.Path.{_≡_};
 ghost use mathlib.Core.List.{_∷_, []};
 ghost use Prim.Native.Nat.{_+_, _≤_};
 ghost use Rattle.words.specs.Ids.{idOf};
 ghost use Rattle.words.specs.Sums.{cap};
 ghost use Rattle.boxes.specs.Flat.{countOf, idsTo};
 ghost use Rattle.answers.specs.Answers.{Wrote};
+
+// How many ids a buffer has places for.
+pub fn places(answer: &[u64]) -> usize
+    ensures { λ r. ⌜ r ≡ countOf 4 (now (answer .entry)) ⌝ }
+{
+    answer.len() / 4
+}
 
 // Writes an id at place `k`, where the buffer has that place.
 pub fn write_id(answer: &mut [u64], k: usize, id: Id)

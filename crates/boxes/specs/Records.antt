@@ -69,6 +69,11 @@ abbrev pub inputsOf : ℕ → List BoxRec → List ℕ
 inputsOf k [] = []
 inputsOf k (r ∷ rs) = pick (isInput k r) (r .box ∷ inputsOf k rs) (inputsOf k rs)
 
+-- a transaction's outputs, as `inputsOf` has its inputs
+abbrev pub outputsOf : ℕ → List BoxRec → List ℕ
+outputsOf k [] = []
+outputsOf k (r ∷ rs) = pick (eqb (r .owner) k && r .out) (r .box ∷ outputsOf k rs) (outputsOf k rs)
+
 -- document 01, "Credits to parents": a transaction's "inputs' producers in input order", "a repeated input counts twice"
 abbrev pub parents : List BoxRec → ℕ → List ℕ
 parents rs k = flat (lookup (index true rs)) (inputsOf k rs)
@@ -100,6 +105,6 @@ last-wins = (refl, refl, refl, refl)
 not-put-back : (index false (dropOwner 2 both) ≡ []) × (index true (dropOwner 2 both) ≡ record { box = 8; id = 1 } ∷ []) × (index true (dropOwner 1 both) ≡ record { box = 9; id = 2 } ∷ [])
 not-put-back = (refl, refl, refl)
 
--- repeats are counted as inputs and parents, and a conflict is listed once
-repeats : (inputsOf 2 both ≡ 7 ∷ 7 ∷ 8 ∷ []) × (parents both 2 ≡ 1 ∷ []) × (parents (enterTx 3 (9 ∷ 9 ∷ []) [] both) 3 ≡ 2 ∷ 2 ∷ []) × (conflicts (index false both) (8 ∷ 5 ∷ 7 ∷ 8 ∷ []) ≡ 2 ∷ [])
-repeats = (refl, refl, refl, refl)
+-- repeats are counted as inputs and parents, outputs are listed whether live or not, and a conflict is listed once
+repeats : (inputsOf 2 both ≡ 7 ∷ 7 ∷ 8 ∷ []) × (outputsOf 1 both ≡ 8 ∷ 9 ∷ []) × (parents both 2 ≡ 1 ∷ []) × (parents (enterTx 3 (9 ∷ 9 ∷ []) [] both) 3 ≡ 2 ∷ 2 ∷ []) × (conflicts (index false both) (8 ∷ 5 ∷ 7 ∷ 8 ∷ []) ≡ 2 ∷ [])
+repeats = (refl, refl, refl, refl, refl)

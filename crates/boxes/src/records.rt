@@ -110,7 +110,7 @@ fn compact(s: &mut [u64], used: usize) -> usize
 
 // Whether so many slots are vacated that searches take longer for it: four of some sixteen that stand apart from each other. What it answers
 // changes no record.
-fn is_sparse(s: &[u64], used: usize) -> bool
+pub fn is_sparse(s: &[u64], used: usize) -> bool
     requires { ⌜ BoxesOk (now s) used ⌝ }
 {
     let step = used / 16 + 1;

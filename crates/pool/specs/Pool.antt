@@ -13,7 +13,6 @@ use Rattle.entries.specs.Layout.{entriesOf, entriesRoom, EntriesOk}
 use Rattle.entries.specs.declared.fields.ValidationCost.the-variants.{Unmeasured}
 use Rattle.boxes.specs.Records.{BoxRec, enterTx, dropOwner}
 use Rattle.boxes.specs.Layout.{boxesOf, boxesRoom, BoxesOk}
-use Rattle.boxes.specs.Posts.{Roomy}
 
 pub record Tables : Type 0 where
   pub entries : List Entry
@@ -38,11 +37,6 @@ pub record Room (e b : List ℕ) (c : Counts) (needed : ℕ) : Type 0 where
   pub entries : EntriesOk e (c .pooled + 1)
   pub boxes : BoxesOk b (c .records)
   pub free : length (boxesOf b (c .records)) + needed ≤ boxesRoom b
-
--- .. which stand free behind the used slots: the records are what they were
-pub record Made (b m : List ℕ) (c d : Counts) (needed : ℕ) : Type 0 where
-  pub pooled : d .pooled ≡ c .pooled
-  pub slots : Roomy b m (c .records) (d .records) needed
 
 -- what a call leaves: words and counts that fit, and these tables in them
 pub record Left (e b : List ℕ) (c : Counts) (t : Tables) : Type 0 where

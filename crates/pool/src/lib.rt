@@ -6,6 +6,7 @@ use boxes::records::count_boxes;
 use boxes::records::drop_between;
 use boxes::records::drop_owner;
 use boxes::records::enter_tx;
+use boxes::records::is_sparse;
 use boxes::records::write_behind;
 use boxes::rows::boxes_room;
 use entries::fields::PoolEntry;
@@ -18,7 +19,7 @@ use pool_types::Counts;
 use words::ids::Id;
 use words::ids::same_id;
 ghost use mathlib.Core.Path.{_≡_};
-ghost use mathlib.Core.Bool.{not};
+ghost use mathlib.Core.Bool.{true, not};
 ghost use mathlib.Core.List.{map};
 ghost use Prim.Native.Nat.{_+_, _≤_, _<_};
 ghost use lib.ListN.{length};
@@ -29,7 +30,7 @@ ghost use Rattle.boxes.specs.Entering.{hideTx};
 ghost use Rattle.boxes.specs.Layout.{boxesRoom, BoxesOk, boxesOf};
 ghost use Rattle.boxes.specs.Clear.{Between, Still};
 ghost use Rattle.boxes.specs.Flat.{countOf, idsOf, idsTo};
-ghost use Rattle.pool.specs.Pool.{PoolFits, fitsTest, Room, Made, noRoom, Left, tablesOf, insertTx, removeTx, removeAll, nobody, dropLow};
+ghost use Rattle.pool.specs.Pool.{PoolFits, fitsTest, Room, noRoom, Left, tablesOf, insertTx, removeTx, removeAll, nobody, dropLow};
 
 // ---- what is tested
 
@@ -61,17 +62,15 @@ pub fn room_for(entries: &[u64], boxes: &[u64], counts: Counts, needed: usize) -
 
 // ---- a transaction enters and leaves
 
-// Sees to it that so many more records have room behind the used slots.
-pub fn make_room(boxes: &mut [u64], counts: Counts, needed: usize) -> Counts
+// Whether so many more records have room behind the used slots and few of these are vacated: else an insertion moves the records together.
+pub fn is_ready(boxes: &[u64], counts: Counts, needed: usize) -> bool
     requires { ⌜ BoxesOk (now boxes) (counts .records) ⌝ }
-    requires { ⌜ length (boxesOf (now boxes) (counts .records)) + needed ≤ boxesRoom (now boxes) ⌝ }
-    ensures { λ r. ⌜ Made (now (boxes .entry)) (now (boxes .exit)) counts r needed ⌝ }
+    ensures { λ r. ⌜ (r ≡ true → BoxesOk (now (boxes .entry)) (counts .records + needed)) ⌝ }
 {
-    let records = records::make_room(boxes, counts.records, needed);
-    Counts {
-        pooled: counts.pooled,
-        records,
+    if boxes_room(boxes) - counts.records < needed {
+        return false;
     }
+    !is_sparse(boxes, counts.records)
 }
 
 // Puts an entry where the order has it, and enters the records of its inputs and outputs: lists of records that begin with an id.
@@ -100,7 +99,7 @@ pub fn insert(
     }
 }
 
-// The same where room was made and no older record is hidden: the records stay as they are, and the new ones stand behind them.
+// The same where there is room behind the used slots and no older record is hidden: the records stay as they are, and the new ones stand behind them.
 pub fn insert_alone(
     entries: &mut [u64],
     boxes: &mut [u64],
@@ -149,7 +148,7 @@ pub fn remove(entries: &mut [u64], boxes: &mut [u64], counts: Counts, id: Id) ->
     }
 }
 
-// Removes the first `k` ids of a list, one after the other.
+// Removes the first `k` ids of a list, one after the other. Without an id no word changes.
 pub fn remove_all(
     entries: &mut [u64],
     boxes: &mut [u64],
@@ -160,6 +159,7 @@ pub fn remove_all(
     requires { ⌜ PoolFits (now entries) (now boxes) counts ⌝ }
     requires { ⌜ k ≤ countOf 4 (now list) ⌝ }
     ensures { λ r. ⌜ Left (now (entries .exit)) (now (boxes .exit)) r (removeAll (idsTo 4 (now (list .entry)) k) (tablesOf (now (entries .entry)) (now (boxes .entry)) counts)) ⌝ }
+    ensures { λ r. ⌜ (k ≡ 0 → (now (entries .exit) ≡ now (entries .entry)) × (now (boxes .exit) ≡ now (boxes .entry)) × (r ≡ counts)) ⌝ }
 {
     let mut left = counts;
     let mut i = 0;

@@ -1,5 +1,5 @@
 -- `pool::remove_all` meets its contract. The loop's invariant: removing the ids that are left from what is here gives what removing all of
--- them gave at the beginning. Assumes nothing.
+-- them gave at the beginning, and before the first nothing has changed. Assumes nothing.
 use native.Mathlib.Omega.{arith}
 use mathlib.Core.Path.{_≡_, refl, sym, _∙_}
 use Prim.Native.Nat.{_≤_, _-_}
@@ -14,12 +14,13 @@ abbrev Inv-loop : tie.InvT-loop
 Inv-loop entries₀ boxes₀ list k left₀ i₀ entries boxes left i =
     (length entries ≡ length entries₀) × (length boxes ≡ length boxes₀) × (i ≤ k) × PoolFits entries boxes left
     × (removeAll (drop i (idsTo 4 list k)) (tablesOf entries boxes left) ≡ removeAll (idsTo 4 list k) (tablesOf entries₀ boxes₀ left₀))
+    × (i ≡ 0 → (entries ≡ entries₀) × (boxes ≡ boxes₀) × (left ≡ left₀))
 
 abbrev μ-loop : tie.MeasureT-loop
 μ-loop entries₀ boxes₀ list k left₀ i₀ entries boxes left i = k - i
 
 loop-holds : tie.Need-loop-holds Inv-loop μ-loop
-loop-holds c = (refl, refl, omega arith, c .before .before .before .pre .0, refl)
+loop-holds c = (refl, refl, omega arith, c .before .before .before .pre .0, refl, λ _. (refl, refl, refl))
 
 id-at-requires : tie.Need-id-at-requires Inv-loop μ-loop
 id-at-requires c κs = (omega arith, omega arith)
@@ -36,7 +37,7 @@ loop-less c = omega arith
 loop-again : tie.Need-loop-again Inv-loop μ-loop
 loop-again c =
     let r = c .before .before .before .before .remove .ensures in
-    (omega arith, omega arith, omega arith, r .fits, remove-turn _ _ _ _ (c .before .before .before .before .before .before .before .before .loop-test .taken) _ (c .before .before .before .before .before .id-at .ensures) (r .tables) (c .before .before .before .before .before .before .before .before .before .loop .inv .4))
+    (omega arith, omega arith, omega arith, r .fits, remove-turn _ _ _ _ (c .before .before .before .before .before .before .before .before .loop-test .taken) _ (c .before .before .before .before .before .id-at .ensures) (r .tables) (c .before .before .before .before .before .before .before .before .before .loop .inv .4), λ z. absurd (omega arith))
 
 same-length : tie.Need-same-length Inv-loop μ-loop
 same-length c = omega arith
@@ -45,7 +46,7 @@ same-length-2 : tie.Need-same-length-2 Inv-loop μ-loop
 same-length-2 c = omega arith
 
 returns : tie.Need-returns Inv-loop μ-loop
-returns c = record { fits = c .before .loop .inv .3; tables = sym (remove-end _ _ _ _ (c .loop-test .left)) ∙ c .before .loop .inv .4 }
+returns c = (record { fits = c .before .loop .inv .3; tables = sym (remove-end _ _ _ _ (c .loop-test .left)) ∙ c .before .loop .inv .4 }, λ z. c .before .loop .inv .5 (omega arith))
 
 pub remove-all-spec : {M : Type 1} → statement M
 remove-all-spec =

@@ -1,5 +1,5 @@
--- `admission::contest` meets its contract: 29 (`contest-lost`), or the losers go, which leaves no less room, and the newcomer is seated
--- (`contest-won`). Assumes nothing.
+-- `admission::contest` meets its contract: 29 (`contest-lost`), which writes the conflicts' ids and changes no table, or the losers go, which leaves no
+-- less room, and the newcomer is seated (`contest-won`). Assumes nothing.
 use borrow.Author.Needs.{needs}
 use native.Mathlib.Omega.{arith}
 use mathlib.Core.Path.{refl, sym, ap, _∙_}
@@ -7,6 +7,7 @@ use lib.ListN.{length}
 use Rattle.entries.specs.Layout.{entryOf}
 use Rattle.boxes.specs.Flat.{idsTo}
 use Rattle.admit.specs.Admission.{room-fits, room-after, contest-lost, contest-won}
+use Rattle.admit.specs.Spares.{spares-lost, spares-won}
 use Rattle.admit.proofs.admission.contest.Statement.{statement}
 use Rattle.admit.proofs.admission.contest.Tie as tie
 
@@ -21,6 +22,12 @@ slice-aggregate-is-loser c = search needs
 
 is-loser-requires : tie.Need-is-loser-requires
 is-loser-requires c κs = (room-fits _ _ _ _ (c .before .before .before .before .before .before .before .before .before .before .before .pre .0) .entries, (omega arith, omega arith))
+
+places-requires : tie.Need-places-requires
+places-requires c κs = search needs
+
+smaller-requires : tie.Need-smaller-requires
+smaller-requires c κs = search needs
 
 slice-aggregate-write-ids : tie.Need-slice-aggregate-write-ids
 slice-aggregate-write-ids c = search needs
@@ -40,8 +47,8 @@ same-length-3 c = search needs
 returns : tie.Need-returns
 unfolding entryOf
 returns c =
-    let l = c .before .before .before .before .before .before .before .before .before .before .conflicts .ensures in
-    rw (← l .rows) (contest-lost _ _ _ _ _ _ _ _ _ _ _ _ _ (record { fits = room-fits _ _ _ _ (c .before .before .before .before .before .before .before .before .before .before .before .before .before .before .before .before .before .before .pre .0); tables = refl }) (sym (c .before .before .before .before .before .before .is-loser .ensures) ∙ c .before .before .before .before .before .if1 .taken) (l .count ∙ sym (ap length (l .rows))) (c .before .before .write-ids .ensures))
+    let l = c .before .before .before .before .before .before .before .before .before .before .before .before .before .conflicts .ensures in
+    (rw (← l .rows) (contest-lost _ _ _ _ _ _ _ _ _ _ _ _ _ _ _ _ (record { fits = room-fits _ _ _ _ (c .before .before .before .before .before .before .before .before .before .before .before .before .before .before .before .before .before .before .before .before .before .pre .0); tables = refl }) (sym (c .before .before .before .before .before .before .before .before .before .is-loser .ensures) ∙ c .before .before .before .before .before .before .before .before .if1 .taken) (l .count ∙ sym (ap length (l .rows))) (c .before .before .before .before .before .before .places .ensures) (c .before .before .before .before .before .smaller .ensures) (c .before .before .write-ids .ensures)), spares-lost _ _ _ _ _ _ _)
 
 slice-aggregate-remove-all : tie.Need-slice-aggregate-remove-all
 slice-aggregate-remove-all c = search needs
@@ -53,7 +60,7 @@ slice-aggregate-seat : tie.Need-slice-aggregate-seat
 slice-aggregate-seat c = search needs
 
 seat-requires : tie.Need-seat-requires
-seat-requires c κs = (room-after _ _ _ _ _ _ _ (idsTo 4 _ _) (c .before .before .before .before .before .before .before .before .before .before .before .before .before .before .before .before .before .before .before .before .before .before .before .before .before .pre .0) (omega arith) (omega arith) (c .before .before .before .before .before .before .before .before .remove-all .ensures), (omega arith, omega arith))
+seat-requires c κs = (room-after _ _ _ _ _ _ _ (idsTo 4 _ _) (c .before .before .before .before .before .before .before .before .before .before .before .before .before .before .before .before .before .before .before .before .before .before .before .before .before .pre .0) (omega arith) (omega arith) (c .before .before .before .before .before .before .before .before .remove-all .ensures .0), (omega arith, omega arith))
 
 same-length-4 : tie.Need-same-length-4
 same-length-4 c = search needs
@@ -68,7 +75,8 @@ returns-2 : tie.Need-returns-2
 unfolding entryOf
 returns-2 c =
     let l = c .before .before .before .before .before .before .before .before .before .before .before .before .before .before .before .before .before .before .before .before .before .before .before .before .conflicts .ensures in
-    rw (← l .rows) (contest-won _ _ _ _ _ _ _ _ _ _ _ _ _ (sym (c .before .before .before .before .before .before .before .before .before .before .before .before .before .before .before .before .before .before .before .before .is-loser .ensures) ∙ c .before .before .before .before .before .before .before .before .before .before .before .before .before .before .before .before .before .before .before .if1 .left) (c .before .before .before .before .before .before .before .before .before .before .before .before .before .before .before .remove-all .ensures .tables) (c .before .before .before .before .before .before .seat .ensures))
+    let went = c .before .before .before .before .before .before .before .before .before .before .before .before .before .before .before .remove-all .ensures in
+    (rw (← l .rows) (contest-won _ _ _ _ _ _ _ _ _ _ _ _ _ _ (sym (c .before .before .before .before .before .before .before .before .before .before .before .before .before .before .before .before .before .before .before .before .is-loser .ensures) ∙ c .before .before .before .before .before .before .before .before .before .before .before .before .before .before .before .before .before .before .before .if1 .left) (went .0 .tables) (c .before .before .before .before .before .before .seat .ensures .0)), spares-won _ _ _ _ _ _ _ _ _ _ _ _ (λ h. went .1 (l .count ∙ ap length h)) (c .before .before .before .before .before .before .seat .ensures .1))
 
 pub contest-spec : {M : Type 1} → statement M
 contest-spec =
@@ -78,6 +86,8 @@ contest-spec =
     conflicts-requires
     slice-aggregate-is-loser
     is-loser-requires
+    places-requires
+    smaller-requires
     slice-aggregate-write-ids
     write-ids-requires
     same-length

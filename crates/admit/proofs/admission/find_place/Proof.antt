@@ -8,6 +8,7 @@ use Rattle.boxes.specs.Flat.{idsOf, ids}
 use Rattle.boxes.specs.Layout.{boxesOf}
 use Rattle.indexes.specs.Spent.{no-conflict}
 use Rattle.admit.specs.Admission.{room-fits, contest-free}
+use Rattle.admit.specs.Spares.{spares-seated}
 use Rattle.admit.specs.Alone.{quiet-conflicts}
 use Rattle.admit.proofs.admission.find_place.Statement.{statement}
 use Rattle.admit.proofs.admission.find_place.Tie as tie
@@ -15,11 +16,13 @@ use Rattle.admit.proofs.admission.find_place.Tie as tie
 lowest-or-requires : tie.Need-lowest-or-requires
 lowest-or-requires c κs = room-fits _ _ _ _ (c .before .before .before .before .before .before .before .pre .0) .entries
 
-scan-requires : tie.Need-scan-requires
-scan-requires c κs = (room-fits _ _ _ _ (c .before .before .before .before .before .before .before .before .before .pre .0) .boxes, (omega arith, omega arith))
+stands-alone-requires : tie.Need-stands-alone-requires
+stands-alone-requires c κs = room-fits _ _ _ _ (c .before .before .before .before .before .before .before .before .before .pre .0) .boxes
 
 seat-alone-requires : tie.Need-seat-alone-requires
-seat-alone-requires c κs = (c .before .before .before .before .before .before .before .before .before .before .before .before .before .before .pre .0, (c .before .before .before .before .scan .ensures (c .before .before .before .if1 .taken), c .before .before .before .before .before .before .before .before .before .before .before .before .before .before .pre .1 .1))
+seat-alone-requires c κs =
+    let q = c .before .before .before .before .stands-alone .ensures (c .before .before .before .if1 .taken) in
+    (c .before .before .before .before .before .before .before .before .before .before .before .before .before .before .pre .0, (q .0, q .1))
 
 same-length : tie.Need-same-length
 same-length c = search needs
@@ -31,13 +34,15 @@ same-length-3 : tie.Need-same-length-3
 same-length-3 c = search needs
 
 returns : tie.Need-returns
-returns c = contest-free _ _ _ _ _ _ _ _ _ _ _ _ _ (quiet-conflicts _ _ _ _ _ _ _ _ (c .before .before .before .before .before .before .before .before .before .before .before .scan .ensures (c .before .before .before .before .before .before .before .before .before .before .if1 .taken))) refl (c .before .before .before .before .before .before .seat-alone .ensures)
+returns c =
+    let s = c .before .before .before .before .before .before .seat-alone .ensures in
+    (contest-free _ _ _ _ _ _ _ _ _ _ _ _ _ _ (quiet-conflicts _ _ _ _ _ _ _ _ (c .before .before .before .before .before .before .before .before .before .before .before .stands-alone .ensures (c .before .before .before .before .before .before .before .before .before .before .if1 .taken) .0)) refl (s .0), spares-seated _ _ _ _ _ _ _ _ _ (s .1))
 
 any-spent-requires : tie.Need-any-spent-requires
 any-spent-requires c κs = (room-fits _ _ _ _ (c .before .before .before .before .before .before .before .before .before .before .before .before .pre .0) .boxes, omega arith)
 
 contest-requires : tie.Need-contest-requires
-contest-requires c κs = (c .before .before .before .before .before .before .before .before .before .before .before .before .before .before .before .before .before .pre .0, c .before .before .before .before .before .before .before .before .before .before .before .before .before .before .before .before .before .pre .1 .0)
+contest-requires c κs = c .before .before .before .before .before .before .before .before .before .before .before .before .before .before .before .before .before .pre
 
 same-length-4 : tie.Need-same-length-4
 same-length-4 c = search needs
@@ -69,14 +74,15 @@ same-length-9 c = search needs
 returns-3 : tie.Need-returns-3
 returns-3 c =
     let a = c .before .before .before .before .before .before .before .before .before .before .before .before .before .before .before .before .before .before .before .before .before .before .before .before .before .args in
-    contest-free _ _ _ _ _ _ _ _ _ _ _ _ _ (no-conflict (idsOf 5 (a .inputs .now)) (boxesOf (a .boxes .now) (a .counts .records)) (sym (c .before .before .before .before .before .before .before .before .before .before .before .before .any-spent .ensures) ∙ c .before .before .before .before .before .before .before .before .before .before .before .if2 .left)) (of-none (ids 4) _) (c .before .before .before .before .before .before .seat .ensures)
+    let s = c .before .before .before .before .before .before .seat .ensures in
+    (contest-free _ _ _ _ _ _ _ _ _ _ _ _ _ _ (no-conflict (idsOf 5 (a .inputs .now)) (boxesOf (a .boxes .now) (a .counts .records)) (sym (c .before .before .before .before .before .before .before .before .before .before .before .before .any-spent .ensures) ∙ c .before .before .before .before .before .before .before .before .before .before .before .if2 .left)) (of-none (ids 4) _) (s .0), spares-seated _ _ _ _ _ _ _ _ _ (s .1))
 
 pub find-place-spec : {M : Type 1} → statement M
 find-place-spec =
     tie.close
     (tie.spec
     lowest-or-requires
-    scan-requires
+    stands-alone-requires
     seat-alone-requires
     same-length
     same-length-2

@@ -1,10 +1,12 @@
--- `admission::seat` meets its contract: 30 (`seat-crowded`), or the losers' ids are written and the newcomer settles (`settles`). Assumes nothing.
+-- `admission::seat` meets its contract: 30 (`seat-crowded`), which changes nothing, or the losers' ids are written and the newcomer settles (`settles`).
+-- Assumes nothing.
 use borrow.Author.Needs.{needs}
 use native.Mathlib.Omega.{arith}
 use mathlib.Core.Path.{refl, sym, _∙_}
 use Rattle.entries.specs.Layout.{entryOf}
 use Rattle.boxes.specs.Flat.{ids}
 use Rattle.admit.specs.Admission.{room-fits, seat-crowded, seat-taken, settles}
+use Rattle.admit.specs.Spares.{unmoved-full, unmoved-in}
 use Rattle.admit.proofs.admission.seat.Statement.{statement}
 use Rattle.admit.proofs.admission.seat.Tie as tie
 
@@ -16,13 +18,16 @@ same-length c = search needs
 
 returns : tie.Need-returns
 unfolding entryOf
-returns c = seat-crowded _ _ _ _ _ _ _ _ _ _ _ (record { fits = room-fits _ _ _ _ (c .before .before .before .before .before .before .before .before .before .pre .0); tables = refl }) (sym (c .before .is-crowded .ensures) ∙ c .if1 .taken)
+returns c = (seat-crowded _ _ _ _ _ _ _ _ _ _ _ _ (record { fits = room-fits _ _ _ _ (c .before .before .before .before .before .before .before .before .before .pre .0); tables = refl }) (sym (c .before .is-crowded .ensures) ∙ c .if1 .taken), unmoved-full _ _ _ _)
+
+places-requires : tie.Need-places-requires
+places-requires c κs = search needs
 
 write-ids-requires : tie.Need-write-ids-requires
-write-ids-requires c κs = (c .before .before .before .before .before .before .before .before .before .before .pre .1 .0, omega arith)
+write-ids-requires c κs = (c .before .before .before .before .before .before .before .before .before .before .before .before .pre .1 .0, omega arith)
 
 enter-requires : tie.Need-enter-requires
-enter-requires c κs = (c .before .before .before .before .before .before .before .before .before .before .before .before .before .before .before .before .pre .0, c .before .before .before .before .before .before .before .before .before .before .before .before .before .before .before .before .pre .1 .1)
+enter-requires c κs = (c .before .before .before .before .before .before .before .before .before .before .before .before .before .before .before .before .before .before .pre .0, c .before .before .before .before .before .before .before .before .before .before .before .before .before .before .before .before .before .before .pre .1 .1)
 
 add-outcome-of : tie.Need-add-outcome-of
 add-outcome-of c = omega (arith, c .before .before .before .before .before .before .before .before .enter .ensures .room)
@@ -41,7 +46,9 @@ same-length-4 c = search needs
 
 returns-2 : tie.Need-returns-2
 unfolding entryOf
-returns-2 c = seat-taken _ _ _ _ _ _ _ _ _ _ _ _ (sym (c .before .before .before .before .before .before .before .before .before .before .before .before .before .before .before .before .before .before .is-crowded .ensures) ∙ c .before .before .before .before .before .before .before .before .before .before .before .before .before .before .before .before .before .if1 .left) (settles _ _ _ _ _ _ _ _ _ _ _ (sym (ids 4 .len _ _)) (c .before .before .before .before .before .before .before .before .before .before .before .before .before .before .before .write-ids .ensures) (c .before .before .before .before .before .before .before .before .before .enter .ensures) (c .outcome-of .ensures))
+returns-2 c =
+    let told = rw (c .before .before .before .before .before .before .before .before .before .before .before .before .before .before .before .before .before .places .ensures) at (c .outcome-of .ensures) in
+    (seat-taken _ _ _ _ _ _ _ _ _ _ _ _ _ (sym (c .before .before .before .before .before .before .before .before .before .before .before .before .before .before .before .before .before .before .before .before .is-crowded .ensures) ∙ c .before .before .before .before .before .before .before .before .before .before .before .before .before .before .before .before .before .before .before .if1 .left) (settles _ _ _ _ _ _ _ _ _ _ _ _ (sym (ids 4 .len _ _)) (c .before .before .before .before .before .before .before .before .before .before .before .before .before .before .before .write-ids .ensures) (c .before .before .before .before .before .before .before .before .before .enter .ensures) told), unmoved-in _ _ _ _ _ _ _ _ _ (c .before .before .before .before .before .before .before .before .before .before .before .before .before .before .before .before .before .before .before .before .before .before .before .before .before .before .before .before .args .k) _ (c .outcome-of .ensures))
 
 pub seat-spec : {M : Type 1} → statement M
 seat-spec =
@@ -50,6 +57,7 @@ seat-spec =
     is-crowded-requires
     same-length
     returns
+    places-requires
     write-ids-requires
     enter-requires
     add-outcome-of
