@@ -25,7 +25,8 @@ use Rattle.boxes.specs.Records.{index}
 use Rattle.indexes.specs.Resolved.{allResolved, submitted}
 use Rattle.pool.specs.Pool.{Tables, noRoom}
 use Rattle.checks.specs.Checks.{dear, remote, first, callRefusal, peerRefusal, stateRefusal, listRefusal, refusalOf}
-use Rattle.admit.specs.Admit.{Admitted, loses, crowded, settled, seated, contested, admitSpec}
+use Rattle.admit.specs.Admit.{admitSpec}
+use Rattle.admit.specs.Placed.{admit-outcome}
 use Rattle.store.specs.World.{World, Result, unchanged}
 use Rattle.process.specs.Process.{Limits, judged, unlessRefused, processed}
 
@@ -113,36 +114,15 @@ abbrev Ours : Outcome → Type 0
 Ours o = ofSubmission o ≡ true
 
 -- .. of an admission
-record Ends (d : Admitted) : Type 0 where
-  is : Ours (d .outcome)
+admit-ours : (visits room : ℕ) (g : MempoolConfig) (t : Tables) (a : Submission) (c : ℕ) (ins outs : List ℕ) → Ours (admitSpec visits room g t a c ins outs .outcome)
+unfolding ofSubmission
+admit-ours visits room g t a c ins outs = admit-outcome Ours room (λ n h. refl) refl refl (λ n h. refl) visits g t a c ins outs refl
 
-ends : (t : Bool) (x y : Admitted) → Ours (x .outcome) → Ends y → Ends (pick t x y)
-ends true x y p q = record { is = p }
-ends false x y p q = q
-
-module _ (visits capacity : ℕ) (e : Entry) (ins outs ks : List ℕ) (t : Tables) where
-  settled-ends : (js : List ℕ) (u : Tables) → Ends (settled capacity js u)
-  unfolding settled ofSubmission
-  settled-ends [] u = record { is = refl }
-  settled-ends (j ∷ js) u = record { is = refl }
-
-  seated-ends : Ends (seated visits capacity e ins outs ks t)
-  unfolding seated ofSubmission
-  seated-ends = ends (crowded capacity (e .base) (t .entries)) _ _ refl (settled-ends ks _)
-
-contested-ends : (visits capacity : ℕ) (e : Entry) (ins outs ks : List ℕ) (t : Tables) → Ends (contested visits capacity e ins outs ks t)
-unfolding contested ofSubmission
-contested-ends visits capacity e ins outs ks t = ends (loses (e .base) ks (t .entries)) _ _ refl (seated-ends visits capacity e ins outs ks _)
-
-admit-ends : (visits : ℕ) (g : MempoolConfig) (t : Tables) (a : Submission) (c : ℕ) (ins outs : List ℕ) → Ends (admitSpec visits g t a c ins outs)
-unfolding admitSpec ofSubmission
-admit-ends visits g t a c ins outs = ends (ltb (feeOf outs) (g .«min_fee»)) _ _ refl (contested-ends _ _ _ _ _ _ _)
-
-judged-ours : (visits : ℕ) (st : Mempool) (w : World) (a : Submission) (ins outs : List ℕ) (v : Verdict) → Ours (judged visits st w a ins outs v .outcome)
+judged-ours : (visits room : ℕ) (st : Mempool) (w : World) (a : Submission) (ins outs : List ℕ) (v : Verdict) → Ours (judged visits room st w a ins outs v .outcome)
 unfolding judged ofSubmission
-judged-ours visits st w a ins outs Absent = refl
-judged-ours visits st w a ins outs Invalid = refl
-judged-ours visits st w a ins outs (Valid c) = admit-ends visits (st .config) (w .tables) a c ins outs .is
+judged-ours visits room st w a ins outs Absent = refl
+judged-ours visits room st w a ins outs Invalid = refl
+judged-ours visits room st w a ins outs (Valid c) = admit-ours visits room (st .config) (w .tables) a c ins outs
 
 -- a number that is not 0 is a refusal's
 refused-ours : (n k : ℕ) → eqb n 0 ≡ false → Code n → Ours (refused n k)
@@ -158,7 +138,7 @@ ours n r w p q = by (eqb n 0) refl
 
 pub numbered : (m : Limits) (st : Mempool) (w : World) (room : ℕ) (a : Submission) (ins outs : List ℕ) → Ours (processed m st w room a ins outs .outcome)
 unfolding processed
-numbered m st w room a ins outs = ours _ _ w (refusal-code st a ins outs _ _ _ _ _ _ _) (judged-ours (m .visits) st w a ins outs (a .verdict))
+numbered m st w room a ins outs = ours _ _ w (refusal-code st a ins outs _ _ _ _ _ _ _) (judged-ours (m .visits) room st w a ins outs (a .verdict))
 
 -- ---- as the call claims it
 

@@ -42,10 +42,10 @@ pub record Post (st : Mempool) (r : Processed) (e b k : List ℕ) (ys : List Pee
 
 -- ---- way by way
 
-pub judged-valid : (visits : ℕ) (st : Mempool) (w : World) (a : Submission) (ins outs : List ℕ) {v : Verdict} (c : ℕ) → v ≡ Valid c
-    → judged visits st w a ins outs v ≡ admitted (admitSpec visits (st .config) (w .tables) a c ins outs) w a c
+pub judged-valid : (visits room : ℕ) (st : Mempool) (w : World) (a : Submission) (ins outs : List ℕ) {v : Verdict} (c : ℕ) → v ≡ Valid c
+    → judged visits room st w a ins outs v ≡ admitted (admitSpec visits room (st .config) (w .tables) a c ins outs) w a c
 unfolding judged
-judged-valid visits st w a ins outs c q = rw q
+judged-valid visits room st w a ins outs c q = rw q
 
 -- ---- a refusal's number that is not 0 is the outcome; else the verdict is judged
 
@@ -55,6 +55,6 @@ module _ (m : Limits) (st : Mempool) (w : World) (room : ℕ) (a : Submission) (
   unfolding processed
   stopped h = rw (← q, ← e) (no _ _ _ (ne-eqb n 0 h))
 
-  pub goes-on : n ≡ 0 → processed m st w room a ins outs ≡ judged (m .visits) st w a ins outs (a .verdict)
+  pub goes-on : n ≡ 0 → processed m st w room a ins outs ≡ judged (m .visits) room st w a ins outs (a .verdict)
   unfolding processed
   goes-on h = rw (← q, ← e) (yes _ _ _ (eq-eqb n 0 h))

@@ -11,7 +11,7 @@ use Rattle.pool_types.specs.declared.Source.{Source}
 use Rattle.pool_types.specs.declared.Source.the-variants.{Local, Peer}
 use Rattle.pool_types.specs.declared.Verdict.{Verdict}
 use Rattle.pool_types.specs.declared.Verdict.the-variants.{Valid, Invalid, Absent}
-use Rattle.pool_types.specs.Outcomes.{Outcome, refused, needed}
+use Rattle.pool_types.specs.Outcomes.{refused, needed}
 use Rattle.expiring_cache.specs.Cache.{remember}
 use Rattle.peers.specs.Peers.{standing, chargePeer}
 use Rattle.peers.specs.declared.PeerRecord.{PeerRecord}
@@ -55,15 +55,16 @@ admitted d w a c =
     }
 
 -- "then an absent verdict answers 'verdict needed', changing nothing (added); 9; a remote peer is charged; ..". 9: "invalid verdict; the id enters the cache"
-unfoldable pub judged : ℕ → Mempool → World → Submission → List ℕ → List ℕ → Verdict → Result
-judged visits st w a ins outs Absent = unchanged needed w
-judged visits st w a ins outs Invalid =
+-- `room`: the ids that the answer buffer holds
+unfoldable pub judged : ℕ → ℕ → Mempool → World → Submission → List ℕ → List ℕ → Verdict → Result
+judged visits room st w a ins outs Absent = unchanged needed w
+judged visits room st w a ins outs Invalid =
     record {
       outcome = refused 9 0;
       world = world (w .tables) (remember (st .config .«invalidation_capacity») (a .time) (idOf (a .id)) (w .cache)) (w .sum) (w .peers);
       written = [];
     }
-judged visits st w a ins outs (Valid c) = admitted (admitSpec visits (st .config) (w .tables) a c ins outs) w a c
+judged visits room st w a ins outs (Valid c) = admitted (admitSpec visits room (st .config) (w .tables) a c ins outs) w a c
 
 -- ---- the whole
 
@@ -71,10 +72,9 @@ judged visits st w a ins outs (Valid c) = admitted (admitSpec visits (st .config
 abbrev pub unlessRefused : ℕ → Result → World → Result
 unlessRefused n r w = pick (eqb n 0) r (unchanged (refused n 0) w)
 
--- `room`: the ids that the answer buffer holds
 unfoldable pub processed : Limits → Mempool → World → ℕ → Submission → List ℕ → List ℕ → Result
 processed m st w room a ins outs =
     unlessRefused
     (refusalOf (m .inputs) (m .entries) (m .boxes) st room (w .tables) (w .cache) (standingOf (a .source) (w .peers)) a ins outs)
-    (judged (m .visits) st w a ins outs (a .verdict))
+    (judged (m .visits) room st w a ins outs (a .verdict))
     w

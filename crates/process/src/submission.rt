@@ -144,7 +144,7 @@ fn valid(
     ensures { λ r. ⌜ ((k : List ℕ) (ys : List PeerRecord) → Fits (now (entries .entry)) (now (boxes .entry)) k ys mempool →
         standing ≡ standingOf (sub .source) (peersOf ys (mempool .sums .peers)) →
         Claims (now (entries .entry)) (now (boxes .entry)) k mempool r (now (entries .exit)) (now (boxes .exit)) k ys (now (answer .entry)) (now (answer .exit))
-        (admitted (admitSpec 500 (mempool .config) (tablesOf (now (entries .entry)) (now (boxes .entry)) (mempool .counts)) sub cost (now (inputs .entry)) (now (outputs .entry)))
+        (admitted (admitSpec 500 (length (now (answer .entry)) / 4) (mempool .config) (tablesOf (now (entries .entry)) (now (boxes .entry)) (mempool .counts)) sub cost (now (inputs .entry)) (now (outputs .entry)))
         (worldOf (now (entries .entry)) (now (boxes .entry)) k ys mempool) sub cost)) ⌝ }
 {
     let source = sub.source;
@@ -195,7 +195,7 @@ fn judge(
     ensures { λ r. ⌜ ((ys : List PeerRecord) → Fits (now (entries .entry)) (now (boxes .entry)) (now (cache .entry)) ys mempool →
         standing ≡ standingOf (sub .source) (peersOf ys (mempool .sums .peers)) →
         Claims (now (entries .entry)) (now (boxes .entry)) (now (cache .entry)) mempool r (now (entries .exit)) (now (boxes .exit)) (now (cache .exit)) ys (now (answer .entry)) (now (answer .exit))
-        (judged 500 mempool (worldOf (now (entries .entry)) (now (boxes .entry)) (now (cache .entry)) ys mempool) sub (now (inputs .entry)) (now (outputs .entry)) (sub .verdict))) ⌝ }
+        (judged 500 (length (now (answer .entry)) / 4) mempool (worldOf (now (entries .entry)) (now (boxes .entry)) (now (cache .entry)) ys mempool) sub (now (inputs .entry)) (now (outputs .entry)) (sub .verdict))) ⌝ }
 {
     let verdict = sub.verdict;
     match verdict {

@@ -2,7 +2,6 @@
 -- value; and what is due is charged. Assumes nothing.
 use mathlib.Core.Path.{_≡_, refl, sym, ap, subst}
 use Prim.Native.Nat.{ℕ}
-use mathlib.Core.Bool.{true, false}
 use mathlib.Core.List.{[], _∷_, List}
 use lib.Dec.{T}
 use lib.ListN.{length}
@@ -48,7 +47,6 @@ use Rattle.pool_types.proofs.Mempool.Laws as Mp′
 use Rattle.pool_types.specs.declared.Submission.{Submission}
 use Rattle.pool_types.proofs.Submission as Sb
 use Rattle.pool_types.proofs.Submission.Laws as Sb′
-use Rattle.process.specs.declared.Processed.{Processed}
 use Rattle.process.proofs.Processed as Pd
 use Rattle.process.proofs.Processed.Laws as Pd′
 use Rattle.peers.specs.declared.PeerRecord.{PeerRecord}
@@ -63,15 +61,11 @@ use Rattle.process.specs.declared.submission.Submitted.{Submitted}
 use Rattle.process.proofs.submission.Submitted as Sd
 use Rattle.process.proofs.submission.Submitted.Laws as Sd′
 use Prim.Native.Nat.{min}
-use Rattle.words.specs.Lists.{pick as pickOf}
-use Rattle.pool_types.specs.Outcomes.{processedOf, refused}
 use Rattle.peers.specs.Peers.{peersOf, standing}
-use Rattle.process.specs.Numbers.{ofSubmission}
-use Rattle.store.specs.Fits.{allFit}
 use Rattle.process.specs.Bills.{askedPeer, Payable, Paid}
 use Rattle.process.specs.Post.{resultOf}
-use Rattle.process.specs.Claims.{answered, Offers}
-use Rattle.process.specs.Promises.{ProcessPromise}
+use Rattle.process.specs.Claims.{answered, Offers, settled}
+use Rattle.process.specs.Promises.{Submits}
 use Rattle.process.proofs.Share.{Shared, shares, shared-back}
 use mir.Syntax.{Ty, erased, imm, mut, tyRef}
 use base.Fml.{froom, fdies}
@@ -164,14 +158,7 @@ module _ {M : Type 1} (𝓤 : URA M) (H : Heap 𝓤) (A : Atoms 𝓤) (W : Given
   abbrev Post : Val → SProp 𝓤
   Post = walkOf 𝓤 H A f.ended stayed (f.clauses 𝓤 H A at-mem run) .post bound
 
-  -- what is claimed at exit
-  abbrev Said : Processed → List ℕ → List ℕ → List ℕ → List PeerRecord → List ℕ → Type 0
-  Said r e′ b′ k′ ys′ a′ =
-      ProcessPromise e b k ys st w ins outs e′ b′ k′ ys′ a a′ r
-      × (ofSubmission (processedOf (r .outcome)) ≡ true)
-      × (allFit e b k (length ys) st ≡ false → processedOf (r .outcome) ≡ refused (pickOf (st .pass .open) 20 1) 0)
-
-  exits : (r : Submitted) (vs : List Val) (is : Is Sd.the-row r vs) (e′ b′ k′ : List ℕ) (ys′ : List PeerRecord) (a′ : List ℕ) → Said (answered r) e′ b′ k′ ys′ a′ → (length e′ ≡ length e) × (length b′ ≡ length b) × (length k′ ≡ length k) × (length ys′ ≡ length ys) × (length a′ ≡ length a) → ent 𝓤 (⋆ 𝓤 H A (‵ (flft κ₀ q₀) ∷ ‵ (flft κ₁ q₁) ∷ ‵ (flft κ₂ q₂) ∷ ‵ (flft κ₃ q₃) ∷ ‵ (flft κ₄ q₄) ∷ ‵ (flft κ₅ q₅) ∷ ‵ (flft κ₆ q₆) ∷ ‵ (finally u64 γ₀ e′) ∷ ‵ (finally u64 γ₁ b′) ∷ ‵ (finally u64 γ₂ k′) ∷ ‵ (finally Pr.the-row γ₃ ys′) ∷ ‵ (finally u64 γ₄ a′) ∷ ‵ (ShrSlice (named 5) κ₅ u64 .own (refAt b₅ o₅ γ₅ ins) (sliceVal (b₅, o₅) (length ins) ∷ [])) ∷ ‵ (ShrSlice (named 6) κ₆ u64 .own (refAt b₆ o₆ γ₆ outs) (sliceVal (b₆, o₆) (length outs) ∷ [])) ∷ [])) (Post (LL.val Pd.the-type Pd′.the-laws (answered r)))
+  exits : (r : Submitted) (vs : List Val) (is : Is Sd.the-row r vs) (e′ b′ k′ : List ℕ) (ys′ : List PeerRecord) (a′ : List ℕ) → Submits e b k ys st w ins outs e′ b′ k′ ys′ a a′ (answered r) → (length e′ ≡ length e) × (length b′ ≡ length b) × (length k′ ≡ length k) × (length ys′ ≡ length ys) × (length a′ ≡ length a) → ent 𝓤 (⋆ 𝓤 H A (‵ (flft κ₀ q₀) ∷ ‵ (flft κ₁ q₁) ∷ ‵ (flft κ₂ q₂) ∷ ‵ (flft κ₃ q₃) ∷ ‵ (flft κ₄ q₄) ∷ ‵ (flft κ₅ q₅) ∷ ‵ (flft κ₆ q₆) ∷ ‵ (finally u64 γ₀ e′) ∷ ‵ (finally u64 γ₁ b′) ∷ ‵ (finally u64 γ₂ k′) ∷ ‵ (finally Pr.the-row γ₃ ys′) ∷ ‵ (finally u64 γ₄ a′) ∷ ‵ (ShrSlice (named 5) κ₅ u64 .own (refAt b₅ o₅ γ₅ ins) (sliceVal (b₅, o₅) (length ins) ∷ [])) ∷ ‵ (ShrSlice (named 6) κ₆ u64 .own (refAt b₆ o₆ γ₆ outs) (sliceVal (b₆, o₆) (length outs) ∷ [])) ∷ [])) (Post (LL.val Pd.the-type Pd′.the-laws (answered r)))
   exits r vs is e′ b′ k′ ys′ a′ q l =
       qed W (‵ (flft κ₀ q₀) ∷ ‵ (flft κ₁ q₁) ∷ ‵ (flft κ₂ q₂) ∷ ‵ (flft κ₃ q₃) ∷ ‵ (flft κ₄ q₄) ∷ ‵ (flft κ₅ q₅) ∷ ‵ (flft κ₆ q₆) ∷ ‵ (finally u64 γ₀ e′) ∷ ‵ (finally u64 γ₁ b′) ∷ ‵ (finally u64 γ₂ k′) ∷ ‵ (finally Pr.the-row γ₃ ys′) ∷ ‵ (finally u64 γ₄ a′) ∷ ‵ (ShrSlice (named 5) κ₅ u64 .own (refAt b₅ o₅ γ₅ ins) (sliceVal (b₅, o₅) (length ins) ∷ [])) ∷ ‵ (ShrSlice (named 6) κ₆ u64 .own (refAt b₆ o₆ γ₆ outs) (sliceVal (b₆, o₆) (length outs) ∷ [])) ∷ []) ∵
       suffices ! _ (ends-at 𝓤 H A f.ended stayed (f.clauses 𝓤 H A at-mem run) W bound (LL.val Pd.the-type Pd′.the-laws (answered r)) (answered r) (e′, (b′, (k′, (ys′, (a′, (tt, (tt, (tt, (tt, tt))))))))) (l .0, (l .1, (l .2, (l .3, (l .4, (tt, (tt, (tt, (tt, tt)))))))))) $ says ! q $
@@ -272,7 +259,7 @@ module _ {M : Type 1} (𝓤 : URA M) (H : Heap 𝓤) (A : Atoms 𝓤) (W : Given
         assigns ! (agg ! (and-then ! (load ! (from ! (fld ! refl (stop !))) (look-in ! 28 (sub ! 0 refl (whole !)))) (and-then ! (load ! (from ! (fld ! refl (stop !))) (look-in ! 28 (sub ! 1 refl (whole !)))) (no-more !)))) (from ! (stop !)) (init ! 39 refl (LL.lawful Pd.the-type Pd′.the-laws 𝓤 H A W .typed (answered r) _ (out-is r _ is) .0)) $
         returns ! (look ! 39 refl) $ forget ! 39 refl $ forget ! 38 refl $ forget ! 37 refl $ forget ! 36 refl $ forget ! 35 refl $ forget ! 34 refl $ forget ! 33 refl $ forget ! 32 refl $ forget ! 31 refl $ forget ! 30 refl $ forget ! 28 refl $ forget ! 16 refl $ forget ! 15 refl $ forget ! 14 refl $
         move ! (39 ∷ 40 ∷ []) $ free1 ! $ move ! (38 ∷ 39 ∷ []) $ free1 ! $ move ! (37 ∷ 38 ∷ []) $ free1 ! $ move ! (36 ∷ 37 ∷ []) $ free1 ! $ move ! (35 ∷ 36 ∷ []) $ free1 ! $ move ! (34 ∷ 35 ∷ []) $ free1 ! $ move ! (33 ∷ 34 ∷ []) $ free1 ! $ move ! (32 ∷ 33 ∷ []) $ free1 ! $ move ! (31 ∷ 32 ∷ []) $ free1 ! $ move ! (30 ∷ 31 ∷ []) $ free1 ! $ move ! (29 ∷ 30 ∷ []) $ free1 ! $ move ! (28 ∷ 29 ∷ []) $ free1 ! $ move ! (27 ∷ 28 ∷ []) $ free1 ! $ move ! (26 ∷ 27 ∷ []) $ free1 ! $ move ! (25 ∷ 26 ∷ []) $ free1 ! $ move ! (24 ∷ 25 ∷ []) $ free1 ! $ move ! (23 ∷ 24 ∷ []) $ free1 ! $ move ! (22 ∷ 23 ∷ []) $ free1 ! $ move ! (21 ∷ 22 ∷ []) $ free1 ! $ move ! (20 ∷ 21 ∷ []) $ free1 ! $ move ! (19 ∷ 20 ∷ []) $ free1 ! $ move ! (18 ∷ 19 ∷ []) $ free1 ! $ move ! (17 ∷ 18 ∷ []) $ free1 ! $ move ! (16 ∷ 17 ∷ []) $ free1 ! $ move ! (15 ∷ 16 ∷ []) $ free1 ! $ move ! (14 ∷ 15 ∷ []) $ free1 ! $ free0 ! $
-        keep ! (2 ∷ 3 ∷ 4 ∷ 1 ∷ 5 ∷ 6 ∷ 7 ∷ 8 ∷ 9 ∷ 10 ∷ 0 ∷ 11 ∷ 12 ∷ 13 ∷ []) $ by ! (exits r _ is e′ b′ k′ ys′ a′ ((λ fit. off .post fit ys′ (q .0)), off .ours, off .unfit) (l .0, l .1, l .2, q .1, l .3)))))))
+        keep ! (2 ∷ 3 ∷ 4 ∷ 1 ∷ 5 ∷ 6 ∷ 7 ∷ 8 ∷ 9 ∷ 10 ∷ 0 ∷ 11 ∷ 12 ∷ 13 ∷ []) $ by ! (exits r _ is e′ b′ k′ ys′ a′ (settled w ins outs off (q .0)) (l .0, l .1, l .2, q .1, l .3)))))))
 
     -- the peer was found at g: the rest goes by value
     submits : (g : Standing) → Is St.the-row g (EL.val St.the-type St′.the-laws g ∷ []) → g ≡ standing (peersOf ys (min (st .sums .peers) (length ys))) (askedPeer (w .source))
