@@ -1,5 +1,5 @@
 -- Laws of a line: how many ids a submission wrote, what of them stands in the answer buffer, and that a start fits.
-use Prim.Native.Nat.{ℕ, zero, suc, _+_, _/_, _≤_, _<_, min, max}
+use Prim.Native.Nat.{ℕ, zero, suc, _+_, _*_, _/_, _≤_, _<_, min, max}
 use mathlib.Core.Path.{_≡_, refl, sym, ap, _∙_, subst}
 use mathlib.Core.Bool.{Bool, true, false, not}
 use mathlib.Core.List.{List, [], _∷_, _++_, append-assoc, append-nil}
@@ -320,6 +320,10 @@ fits-new e b k p c y z =
       records = omega (arith, z, flats .len p (length p / 2));
       used = omega arith;
     }
+
+-- the records in use are among the words
+pub peers-words : (p : List ℕ) (used : ℕ) → 256 ≤ length (records p) → used ≤ 256 → used * 2 ≤ length p
+peers-words p used h u = omega (arith, h, u, flats .len p (length p / 2))
 
 -- before the first start
 pub holds-nothing : (e b k p a : List ℕ) → 5 ≤ length k → 512 ≤ length p → Holds e b k p a nothing

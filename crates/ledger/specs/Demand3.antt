@@ -18,13 +18,12 @@ use Rattle.entries.specs.Entries.{Entry, pooled}
 use Rattle.entries.specs.Entries.{weightOf as entryWeight, keyOf as entryId}
 use Rattle.entries.specs.InOrder.{Strict}
 use Rattle.boxes.specs.Among.{among}
-use Rattle.boxes.specs.Records.{BoxRec, Pair, index, inputsOf}
+use Rattle.boxes.specs.Records.{BoxRec, Pair, index, inputsOf, outputsOf}
 use Rattle.pool.specs.Pool.{Tables}
 use Rattle.family.specs.Chains.{over, chains}
 use Rattle.ledger.specs.Book.{Book, txWeight, walks, evicts, parentsIn}
 use Rattle.ledger.specs.Charges.{Charge, totalCharged, chargedTo, payers, Fair}
 use Rattle.ledger.specs.Ledger.{Call, Submit, Return, Block, Invalidate, Open, Next, Answer, Start, Ask, Ledger, visitCap, submittedBase, entered, Heard, told}
-use Rattle.ledger.specs.Uses.{outputsOf}
 use Rattle.ledger.specs.Run.{Moment, worldAt}
 
 -- ---- "the transactions .. exactly the ledger's": id, base, input and output box ids
@@ -73,8 +72,8 @@ CreditsChains g a ins outs (offers k) b after = Unit {0}
 CreditsChains g a ins outs (fails k) b after = Unit {0}
 CreditsChains g a ins outs tells b after = Unit {0}
 
--- ---- "a submission that no earlier check refused fails 24 exactly if it is remote and that total is at its limit or above, 25 exactly if remote and its
--- peer's sum is, 26 exactly if remote, its peer has had no charge since then and 256 others have"
+-- ---- "A submission that no earlier check refused fails 24 exactly if it is remote and that total is at its limit or above, 25 exactly if it is remote and
+-- its peer's sum is, and 26 exactly if it is remote, its peer has had no charge since then and 256 others have."
 
 -- it was refused with one of these numbers
 abbrev pub refusedBy : List ℕ → Reading → Bool

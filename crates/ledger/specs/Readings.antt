@@ -13,11 +13,11 @@ use Rattle.words.specs.Find.{found, found-view}
 use Rattle.entries.specs.Entries.{Entry, weightOf, keyOf, pooled}
 use Rattle.entries.specs.InOrder.{EntriesInOrder, Strict, strict}
 use Rattle.boxes.specs.Among.{among, among-cons}
-use Rattle.boxes.specs.Records.{BoxRec, Pair, same, index, lookup, inputsOf}
+use Rattle.boxes.specs.Records.{BoxRec, Pair, same, index, lookup, inputsOf, outputsOf}
 use Rattle.pool.specs.Pool.{Tables}
 use Rattle.ledger.specs.Book.{Tx, Book, txWeight, insOf, outsOf, inBook}
 use Rattle.ledger.specs.Same.{Brief, briefOf, viewOf, SameBook}
-use Rattle.ledger.specs.Uses.{ids, outputsOf, inputs-in-book, outputs-in-book}
+use Rattle.ledger.specs.Uses.{ids, inputs-in-book, outputs-in-book}
 use Rattle.ledger.specs.Views.{found-sort}
 use Rattle.ledger.specs.SameLaws.{count-same, pool-once, pool-order}
 use Rattle.ledger.specs.SameMoves.{size-same}

@@ -1,5 +1,5 @@
 -- Demand 3 (document 01): over every list of calls from what an accepted start left, the pool is what the ledger says.
-use Prim.Native.Nat.{ℕ, _≤_, max}
+use Prim.Native.Nat.{ℕ, _+_, _≤_, max}
 use mathlib.Core.Path.{_≡_, refl, sym, ap, subst, _∙_}
 use mathlib.Core.Bool.{Bool, true, false, not}
 use mathlib.Core.List.{List, [], _∷_, map, map-map}
@@ -15,7 +15,7 @@ use Rattle.pool_types.specs.declared.Submission.{Submission}
 use Rattle.pool_types.specs.declared.StartOutcome.the-variants.{Ready, NotStarted}
 use Rattle.pool_types.specs.Outcomes.{Outcome, Reading, declined, did, offers, fails, tells, readingOf}
 use Rattle.entries.specs.Entries.{Entry}
-use Rattle.boxes.specs.Records.{BoxRec, Pair, inputsOf}
+use Rattle.boxes.specs.Records.{BoxRec, Pair, inputsOf, outputsOf}
 use Rattle.pool.specs.Pool.{Tables}
 use Rattle.words.specs.Tables.{of-none}
 use Rattle.entries.specs.Layout.{entries}
@@ -34,11 +34,13 @@ use Rattle.ledger.specs.Book.{Tx, Book, insOf, outsOf}
 use Rattle.ledger.specs.ChargeLaws.{in-among}
 use Rattle.ledger.specs.Same.{Brief, briefOf, viewOf, SameBook}
 use Rattle.ledger.specs.SameLaws.{same-none as book-none}
+use Rattle.ledger.specs.SameLaws.{same-ok}
+use Rattle.admit.specs.Admit.{admitSpec}
+use Rattle.admit.specs.Placed.{writtenOf, placed}
 use Rattle.ledger.specs.SameCharges.{same-none as charges-none}
-use Rattle.ledger.specs.Uses.{outputsOf}
 use Rattle.ledger.specs.Readings.{Named, found-same, ids-once, in-strict-order, length-same, pooled-same, weights-same, inputs-same, outputs-same, named-spender, named-producer}
 use Rattle.ledger.specs.BookCredits.{credits-for-chains}
-use Rattle.ledger.specs.Ledger.{Call, Submit, Return, Block, Invalidate, Open, Next, Answer, Start, Ask, Ledger, Heard, told, entersSubmission, hearsSubmission, ledger}
+use Rattle.ledger.specs.Ledger.{Call, Submit, Return, Block, Invalidate, Open, Next, Answer, Start, Ask, Ledger, Heard, told, entersSubmission, hearsSubmission, ledger, visitCap}
 use Rattle.ledger.specs.Run.{Moment, moment, worldAt, FitsAt, passAt, sizesAt, Becomes, Step, nothing, Begun, Run, begin, call}
 use Rattle.ledger.specs.Steps.{fits-made}
 use Rattle.ledger.specs.Demand3.{Known, pooledAs, heldAs, Names, CreditsChains, FailsExactly, ofSubmit, everySubmission, Demand3}
@@ -289,3 +291,12 @@ told-demand3 g h m z =
 
 pub demand3 : (g : MempoolConfig) (h : List Heard) (m : Moment) → Run g h m → Demand3 g h m
 demand3 g h m r = told-demand3 g h m (run-told g r)
+
+-- ---- ids written
+
+-- "answer buffer below pooled + 1 ids" is refused with 2, so after every list of calls each id that a submission's outcome counts has its place, and it
+-- counts every id that is to be written
+pub told-placed : (g : MempoolConfig) (h : List Heard) (m : Moment) → Told g h m → (a : Submission) (c room : ℕ) (ins outs : List ℕ) → length (worldAt m .tables .entries) + 1 ≤ room
+    → writtenOf (admitSpec visitCap room g (worldAt m .tables) a c ins outs .outcome) ≡ length (admitSpec visitCap room g (worldAt m .tables) a c ins outs .written)
+told-placed g h m z a c room ins outs l =
+    placed visitCap room g (worldAt m .tables) a c ins outs (same-ok (worldAt m .tables) (told g h .book) (z .agrees .world .book)) l

@@ -8,7 +8,7 @@ use native.Mathlib.Omega.{arith}
 use lib.Dec.{eqb}
 use borrow.Author.Tests.{eqb-true}
 use Rattle.words.specs.Lists.{pick, keep, count, Once, once-head, once-tail, count-append, keep-append, keep-all, keep-none, map-append, absent-head, absent-tail}
-use Rattle.boxes.specs.Records.{BoxRec, same, inputsOf, dropOwner}
+use Rattle.boxes.specs.Records.{BoxRec, same, inputsOf, dropOwner, outputsOf}
 use Rattle.boxes.specs.IndexLaws.{Use, uses, the, Unowned}
 use Rattle.ledger.specs.Book.{Tx, insOf, outsOf}
 use Rattle.ledger.specs.Same.{usesOfTx, usesIn}
@@ -98,11 +98,6 @@ drop-none k (r ∷ rs) h =
 
 abbrev usedIn : Bool → ℕ → List Use → List ℕ
 usedIn o k us = map (λ u. u .box) (keep (λ u. same o (u .out)) (keep (λ u. eqb (u .owner) k) us))
-
--- a transaction's outputs, as `inputsOf` has its inputs
-abbrev pub outputsOf : ℕ → List BoxRec → List ℕ
-outputsOf k [] = []
-outputsOf k (r ∷ rs) = pick (eqb (r .owner) k && r .out) (r .box ∷ outputsOf k rs) (outputsOf k rs)
 
 inputs-used : (k : ℕ) (rs : List BoxRec) → inputsOf k rs ≡ usedIn false k (uses rs)
 inputs-used k [] = refl

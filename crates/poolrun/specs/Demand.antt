@@ -1,5 +1,5 @@
 -- Demand 3 of what poolrun holds: for every input, after every line.
-use Prim.Native.Nat.{ℕ, _≤_}
+use Prim.Native.Nat.{ℕ, _/_, _≤_}
 use mathlib.Core.Path.{_≡_, refl, sym, ap, subst, _∙_}
 use mathlib.Core.Bool.{Bool, true, false, not}
 use mathlib.Core.List.{List, [], _∷_, _++_}
@@ -49,9 +49,9 @@ module _ (w : Words) (h : Kept) (n room : ℕ) (f s : List ℕ) where
   line-starts p = refl
 
 -- what it leaves of the pool
-pub record LineIs (m : Line) (ready : Bool) (config : MempoolConfig) (r : PassResult) : Type 0 where
-  pub ready : m .ready ≡ ready
-  pub config : m .config ≡ config
+pub record LineIs (m : Line) (b : Bool) (g : MempoolConfig) (r : PassResult) : Type 0 where
+  pub ready : m .ready ≡ b
+  pub config : m .config ≡ g
   pub world : m .world ≡ r .world
   pub pass : m .pass ≡ r .pass
 
@@ -110,26 +110,31 @@ module _ {s s' : State} {t : List ℕ} (x : Answered s t s') where
 
   other-is : (c : Call) → callOf (x .comes .form) ≡ c → Other (s .words) c → LineIs (x .to) (s .kept .ready) (s .kept .mempool .config) (still done (worldAt (momentOf s)) (passAt (momentOf s)))
   unfolding lineOf called lacksPool startedLine
-  other-is (call.Ask q) e (asks q) = is-as (came (call.Ask q) e) (go (not (s .kept .ready)))
+  other-is _ e (asks q) = is-as (came (call.Ask q) e) (go (not (s .kept .ready)))
     where
       go : (b : Bool) → LineIs (pick b (same (s .words .entries) (s .words .boxes) (s .words .cache) (s .words .peers) (s .words .answer) (s .kept) wNoPool) (same (s .words .entries) (s .words .boxes) (s .words .cache) (s .words .peers) (s .words .answer) (s .kept) (asked (s .words .entries) (s .words .boxes) (s .words .cache) (s .words .peers) (s .words .answer) (s .kept) 1024 (x .comes .first) q))) (s .kept .ready) (s .kept .mempool .config) (still done (worldAt (momentOf s)) (passAt (momentOf s)))
       go true = same-is _
       go false = same-is _
-  other-is call.Unreadable e unreadable = is-as (came call.Unreadable e) (same-is _)
-  other-is (call.Start p) e (refused p n q) = is-as (came (call.Start p) e ∙ rw q) (record { ready = refl; config = refl; world = refl; pass = refl })
+  other-is _ e unreadable = is-as (came call.Unreadable e) (same-is _)
+  other-is _ e (refused p n q) =
+      is-as {m = startedLine (s .words .entries) (s .words .boxes) (s .words .cache) (s .words .peers) (s .words .answer) (s .kept) (NotStarted n)}
+      (came (call.Start p) e ∙ line-starts (s .words) (s .kept) (s' .number) 1024 (x .comes .first) (x .comes .second) p ∙ ap (startedLine (s .words .entries) (s .words .boxes) (s .words .cache) (s .words .peers) (s .words .answer) (s .kept)) q)
+      (record { ready = refl; config = refl; world = refl; pass = refl })
 
 -- ---- from line to line
 
 -- a pool that was started is there
 there : {g : MempoolConfig} {h : List Heard} {s : State} → Since g h s → s .kept .ready ≡ true
 unfolding startedLine
-there (begins x p st q e c) = x .leaves .ready ∙ ap (λ (m : Line). m .ready) (came x (call.Start p) q ∙ line-starts _ _ _ _ _ _ p ∙ ap (startedLine _ _ _ _ _ _) e)
+there (begins {s = s} {s' = s'} x p st q e c) =
+    x .leaves .ready
+    ∙ ap (λ (m : Line). m .ready) (came x (call.Start p) q ∙ line-starts (s .words) (s .kept) (s' .number) 1024 (x .comes .first) (x .comes .second) p ∙ ap (startedLine (s .words .entries) (s .words .boxes) (s .words .cache) (s .words .peers) (s .words .answer) (s .kept)) e)
 there (makes i x c q) = x .leaves .ready ∙ made-is x c q (there i) .ready
 there (tells i x o) = x .leaves .ready ∙ other-is x _ refl o .ready ∙ there i
 there (goes i w k) = ap (λ (m : Kept). m .ready) k ∙ there i
 
 since-told : {g : MempoolConfig} {h : List Heard} {s : State} → 1 ≤ g .«cost_per_peer_per_block» → Since g h s → Told g h (momentOf s)
-unfolding startedLine
+unfolding startedLine empty
 since-told {g} one (begins {s = s} {s' = s'} x p st q e c) =
     told-begin g (momentOf s')
     (record {
@@ -137,7 +142,7 @@ since-told {g} one (begins {s = s} {s' = s'} x p st q e c) =
       accepted = ap (started (sizesOf (s .words))) (sym c) ∙ e ∙ ap Ready new;
       fits = x .leaves .holds .fits;
       config = x .leaves .config ∙ ap (λ (m : Line). m .config) to ∙ ap (λ (m : Mempool). m .config) new;
-      world = x .leaves .world ∙ ap (λ (m : Line). m .world) to ∙ ap (worldOf (s .words .entries) (s .words .boxes) (s .words .cache) (records (s .words .peers))) new ∙ empty-world _ _ _ _ g;
+      world = x .leaves .world ∙ ap (λ (m : Line). m .world) to ∙ ap (worldOf (s .words .entries) (s .words .boxes) (s .words .cache) (records (s .words .peers))) new ∙ empty-world (s .words .entries) (s .words .boxes) (s .words .cache) (records (s .words .peers)) g;
       pass = x .leaves .pass ∙ ap (λ (m : Line). m .pass) to ∙ ap (λ (m : Mempool). passOf (m .pass)) new ∙ empty-pass g;
     })
     one
@@ -146,13 +151,15 @@ since-told {g} one (begins {s = s} {s' = s'} x p st q e c) =
     new = accepted-start (sizesOf (s .words)) g st (ap (started (sizesOf (s .words))) (sym c) ∙ e) .state
 
     to : x .to ≡ startedLine (s .words .entries) (s .words .boxes) (s .words .cache) (s .words .peers) (s .words .answer) (s .kept) (Ready st)
-    to = came x (call.Start p) q ∙ line-starts _ _ _ _ _ _ p ∙ ap (startedLine _ _ _ _ _ _) e
+    to = came x (call.Start p) q ∙ line-starts (s .words) (s .kept) (s' .number) 1024 (x .comes .first) (x .comes .second) p ∙ ap (startedLine (s .words .entries) (s .words .boxes) (s .words .cache) (s .words .peers) (s .words .answer) (s .kept)) e
 since-told {g} one (makes {s = s} {s' = s'} i x c q) =
-    told-call g (since-told one i) _ _
+    told-call g (since-told one i) (heardOf x c .call) (heardOf x c .outcome)
     (step-of (s .words) (s .kept) (listOne x c) (listTwo x c) c (momentOf s') (became x _ refl (made-is x c q (there i)) refl))
 since-told {g} one (tells {s = s} {s' = s'} i x o) = told-still g (since-told one i) done (λ _. became x done refl (other-is x _ refl o) refl)
-since-told {g} one (goes {s = s} {s' = s'} i w k) =
-    subst (λ (m : Moment). Told g _ m) (λ j. moment (w (~ j) .entries) (w (~ j) .boxes) (w (~ j) .cache) (records (w (~ j) .peers)) (k (~ j) .mempool)) (since-told one i)
+since-told {g} one (goes {h = h} {s = s} {s' = s'} i w k) = subst (Told g h) (sym same-moment) (since-told one i)
+  where
+    same-moment : momentOf s' ≡ momentOf s
+    same-moment = λ j. moment (w j .entries) (w j .boxes) (w j .cache) (records (w j .peers)) (k j .mempool)
 
 -- ---- from the first byte
 

@@ -1,3 +1,4 @@
+use Rattle.console.specs.Laws.{peers-words}
 use native.Mathlib.Omega.{arith}
 use Rattle.console.specs.Console.{asked}
 use borrow.Author.Needs.{needs}
@@ -93,7 +94,7 @@ enum-told-2 c = search needs
 
 -- src/query.rt:116:27
 charges-requires : tie.Need-charges-requires
-charges-requires c κs = search needs
+charges-requires c κs = (peers-words (c .before .before .before .before .before .before .before .before .before .before .before .before .before .args .peers .now) _ (c .before .before .before .before .before .before .before .before .before .before .before .before .before .pre .0 .fits .records) (c .before .before .before .before .before .before .before .before .before .before .before .before .before .pre .0 .fits .used), omega (arith, c .before .before .before .before .before .before .before .before .before .before .before .before .before .pre .0 .fits .used, c .before .before .before .before .before .before .before .before .before .before .before .before .before .pre .1))
 
 -- src/query.rt:117:36
 enum-told-3 : tie.Need-enum-told-3
