@@ -58,6 +58,7 @@ pub record Ran (w₀ w : Lent) (s₀ s sub ins outs : List ℕ) (code : ℕ) : T
   pub unfit : Unfit w₀ (stateOf s₀) outcome
   pub spares : Spares (processedOf outcome) (heldBy w₀ s₀) (heldBy w s)
   pub few : toldOf (processedOf outcome) ≤ length (w₀ .answer) / 4
+  pub size : length (w .peers) ≡ length (w₀ .peers)
 
 -- too few words are refused with n, and nothing changes
 pub record Nothing (n : ℕ) (w₀ w : Lent) (s₀ s : List ℕ) (code : ℕ) : Type 0 where
@@ -88,6 +89,7 @@ module _ (w₀ w : Lent) (s₀ s sub ins outs : List ℕ) (n : ℕ) {st : Mempoo
     (u : Unfit w₀ st (r .outcome))
     (v : Spares (processedOf (r .outcome)) (held (w₀ .entries) (w₀ .boxes) (w₀ .cache) (records (w₀ .peers)) (w₀ .answer) st) (held (w .entries) (w .boxes) (w .cache) (records (w .peers)) (w .answer) (r .mempool)))
     (t : toldOf (processedOf (r .outcome)) ≤ length (w₀ .answer) / 4)
+    (l : length (w .peers) ≡ length (w₀ .peers))
     (q : s ≡ leftWords s₀ (r .mempool .counts) (r .mempool .cached) (r .mempool .sums) n) where
   posted : Promised w₀ w st a ins outs (record { mempool = stateOf s; outcome = r .outcome })
   posted g = let t = p g in rw (left-held s₀ s st (r .mempool) n h e q (t .config) (t .pass)) t
@@ -102,4 +104,5 @@ module _ (w₀ w : Lent) (s₀ s sub ins outs : List ℕ) (n : ℕ) {st : Mempoo
         unfit = rw (← e) u;
         spares = left-spares s₀ s (r .mempool) n h q e v;
         few = t;
+        size = l;
       }

@@ -56,7 +56,8 @@ hears c o = record { call = c; outcome = o }
 
 -- "A list begins with what an accepted start left; each call gets store and state as the last left or returned them; nobody else writes them". Each
 -- call comes with its contract, as its `ensures` has it, of the words before and after it, and with words enough for its arguments: the ledger hears of
--- it. Where there are too few the ledger hears nothing. A query is lent words that it cannot write, so a list with queries is the list without them.
+-- it. Where there are too few the ledger hears nothing. A query is lent words that it cannot write, and so is the store to a start of another state: a
+-- list with them is the list without them.
 -- That there is a whole state is no assumption: `host-long`.
 pub data HostRun (g : MempoolConfig) : List Heard → HostMoment → Type 0 where
   -- a start with these settings and a peer limit of at least 1 answered 0

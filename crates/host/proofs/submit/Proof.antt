@@ -41,7 +41,7 @@ same-length-6 : tie.Need-same-length-6
 same-length-6 c = search needs
 
 returns : tie.Need-returns
-returns c = ran-words _ _ _ _ _ _ _ _ (c .before .before .before .before .before .before .before .before .before .before .before .before .before .before .before .before .before .process-words .result) (c .before .before .before .before .before .before .before .before .before .before .before .before .before .before .before .before .before .before .before .before .before .before .before .before .before .before .before .before .before .before .before .before .before .before .before .pre .0) (c .before .before .before .before .before .before .before .before .before .before .before .before .before .before .before .before .before .before .before .before .before .before .before .before .load-state .ensures) (c .before .before .before .before .before .before .before .before .before .before .before .before .before .before .before .before .before .before .before .before .before .before .before .load-submission .ensures) (c .before .before .before .before .before .before .before .before .before .before .before .before .before .before .before .before .before .process-words .ensures .0) (c .before .before .before .before .before .before .before .before .before .before .before .before .before .before .before .before .before .process-words .ensures .1) (c .before .before .before .before .before .before .before .before .before .before .before .before .before .before .before .before .before .process-words .ensures .2) (c .before .before .before .before .before .before .before .before .before .before .before .before .before .before .before .before .before .process-words .ensures .3) (c .before .before .before .before .before .before .before .before .before .before .before .before .before .before .before .before .before .process-words .ensures .4) (c .before .before .before .store-left .ensures) (c .code-of .ensures) (c .before .before .before .before .written-of .ensures)
+returns c = ran-words _ _ _ _ _ _ _ _ (c .before .before .before .before .before .before .before .before .before .before .before .before .before .before .before .before .before .process-words .result) (c .before .before .before .before .before .before .before .before .before .before .before .before .before .before .before .before .before .before .before .before .before .before .before .before .before .before .before .before .before .before .before .before .before .before .before .pre .0) (c .before .before .before .before .before .before .before .before .before .before .before .before .before .before .before .before .before .before .before .before .before .before .before .before .load-state .ensures) (c .before .before .before .before .before .before .before .before .before .before .before .before .before .before .before .before .before .before .before .before .before .before .before .load-submission .ensures) (c .before .before .before .before .before .before .before .before .before .before .before .before .before .before .before .before .before .process-words .ensures .0) (c .before .before .before .before .before .before .before .before .before .before .before .before .before .before .before .before .before .process-words .ensures .1) (c .before .before .before .before .before .before .before .before .before .before .before .before .before .before .before .before .before .process-words .ensures .2) (c .before .before .before .before .before .before .before .before .before .before .before .before .before .before .before .before .before .process-words .ensures .3) (c .before .before .before .before .before .before .before .before .before .before .before .before .before .before .before .before .before .process-words .ensures .4) (c .before .before .before .before .before .before .before .before .before .before .before .before .before .before .before .before .before .process-words .kept .1 .1 .1 .0) (c .before .before .before .store-left .ensures) (c .code-of .ensures) (c .before .before .before .before .written-of .ensures)
 
 pub submit-spec : {M : Type 1} → statement M
 submit-spec =
