@@ -9,7 +9,7 @@ use pool_types::Submission;
 ghost use mathlib.Core.Path.{_≡_};
 ghost use mathlib.Core.Bool.{true, false};
 ghost use Prim.Native.Nat.{_*_, _/_, _≤_};
-ghost use lib.ListN.{length};
+ghost use lib.ListN.{length, drop};
 ghost use Rattle.words.specs.Lists.{pick};
 ghost use Rattle.pool_types.specs.Outcomes.{processedOf, refused};
 ghost use Rattle.peers.specs.Peers.{standing, chargePeer, usedAfter};
@@ -18,7 +18,7 @@ ghost use Rattle.store.specs.Fits.{allFit};
 ghost use Rattle.store.specs.Spares.{lent, Spares};
 ghost use Rattle.admit.specs.Placed.{writtenOf};
 ghost use Rattle.process.specs.Bills.{Payable};
-ghost use Rattle.process.specs.Flat.{PaidWords};
+ghost use Rattle.process.specs.Flat.{PaidWords, SparesPeers};
 ghost use Rattle.process.specs.Numbers.{ofSubmission};
 ghost use Rattle.process.specs.Promises.{ProcessPromise};
 
@@ -41,7 +41,8 @@ fn find_flat(records: &[u64], used: usize, peer: u64) -> Standing
 // Charges `peer`, which `find_flat` found to stand at `found`: its own record, or the first free one.
 fn charge_flat(records: &mut [u64], used: usize, found: Standing, peer: u64, cost: u64)
     requires { ⌜ (found ≡ standing (flatPeers (now records) used) peer) × (usedAfter used found * 2 ≤ length (now records)) ⌝ }
-    ensures { λ _. ⌜ flatPeers (now (records .exit)) (usedAfter used found) ≡ chargePeer peer cost (flatPeers (now (records .entry)) used) ⌝ }
+    ensures { λ _. ⌜ (flatPeers (now (records .exit)) (usedAfter used found) ≡ chargePeer peer cost (flatPeers (now (records .entry)) used))
+        × (drop (usedAfter used found * 2) (now (records .exit)) ≡ drop (usedAfter used found * 2) (now (records .entry))) ⌝ }
 {
     let at = found.place(used) * 2;
     let next = found.charged(peer, cost);
@@ -76,7 +77,8 @@ pub fn process_words(
         × (ofSubmission (processedOf (r .outcome)) ≡ true)
         × (allFit (now (entries .entry)) (now (boxes .entry)) (now (cache .entry)) (length (now (peers .entry)) / 2) mempool ≡ false → processedOf (r .outcome) ≡ refused (pick (mempool .pass .open) 20 1) 0)
         × Spares (processedOf (r .outcome)) (lent (now (entries .entry)) (now (boxes .entry)) (now (cache .entry)) (records (now (peers .entry))) (now (answer .entry)) mempool) (lent (now (entries .exit)) (now (boxes .exit)) (now (cache .exit)) (records (now (peers .exit))) (now (answer .exit)) (r .mempool))
-        × (writtenOf (processedOf (r .outcome)) ≤ length (now (answer .entry)) / 4) ⌝ }
+        × (writtenOf (processedOf (r .outcome)) ≤ length (now (answer .entry)) / 4)
+        × SparesPeers (processedOf (r .outcome)) (now (peers .entry)) (now (peers .exit)) ⌝ }
 {
     let n = peers.len() / 2;
     let sought = seek(mempool, sub, n);

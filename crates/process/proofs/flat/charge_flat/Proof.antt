@@ -1,5 +1,5 @@
 -- `flat::charge_flat` meets its contract: two words stored are one record stored. Assumes nothing.
-use Rattle.process.specs.Flat.{place-in, flat-charged}
+use Rattle.process.specs.Flat.{place-in, flat-charged, flat-rest}
 use lib.ListN.{length-set}
 use native.Mathlib.Omega.{arith}
 use mathlib.Core.Path.{_≡_, refl, sym, ap, _∙_}
@@ -35,7 +35,11 @@ same-length : tie.Need-same-length
 same-length c = search needs
 
 returns : tie.Need-returns
-returns c = rw (c .before .place .ensures) (flat-charged _ _ _ _ _ (c .before .before .before .pre .0) (c .before .before .before .pre .1) _ _ (c .charged .ensures))
+returns c =
+    rw (c .before .place .ensures) (
+      flat-charged _ _ _ _ _ (c .before .before .before .pre .0) (c .before .before .before .pre .1) _ _ (c .charged .ensures),
+      flat-rest _ _ _ (c .before .before .before .args .cost) _ (c .before .before .before .pre .0) (c .before .before .before .pre .1) _ _,
+    )
 
 pub charge-flat-spec : {M : Type 1} → statement M
 charge-flat-spec =

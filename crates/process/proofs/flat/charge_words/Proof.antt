@@ -11,7 +11,7 @@ same-length : tie.Need-same-length
 same-length c = search needs
 
 returns : tie.Need-returns
-returns c = due-paid _ _ (c .before .before .before .before .if1 .taken) (c .before .before .before .before .before .before .pre) _ (c .before .before .charge-flat .kept .0) (c .before .before .charge-flat .ensures)
+returns c = due-paid _ _ (c .before .before .before .before .if1 .taken) (c .before .before .before .before .before .before .pre) _ (c .before .before .charge-flat .kept .0) (c .before .before .charge-flat .ensures .0) (c .before .before .charge-flat .ensures .1)
 
 returns-2 : tie.Need-returns-2
 returns-2 c = none-due _ _ (c .if1 .left)
