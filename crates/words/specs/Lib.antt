@@ -7,3 +7,5 @@ pub mod Bytes
 pub mod Sums
 pub mod Wide
 pub mod Divide
+pub mod Buckets
+pub mod Chains

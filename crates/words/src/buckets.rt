@@ -1,0 +1,25 @@
+// Buckets of ids, for the tables' indexes. Ids with the same last word are in one bucket; which others are depends on a key, so that whoever does
+// not know it cannot choose ids into one bucket. No answer depends on the key.
+ghost use mathlib.Core.Path.{_≡_};
+ghost use Prim.Native.Nat.{_<_};
+ghost use Rattle.words.specs.Buckets.{bucketOf};
+
+// Half a word, and the number of factors that a half of the last word is multiplied by.
+const HALF: u64 = 0x1_0000_0000;
+
+const FACTORS: u64 = 0x8000_0000;
+// What the key's halves are added to: a key of 0 serves too.
+const FIRST: u64 = 1540483477;
+
+const SECOND: u64 = 461845907;
+
+// The bucket, of n, of ids whose last word is `d`: both halves of the word times a factor each, the high half of the sum.
+pub fn bucket_of(d: u64, key: u64, n: usize) -> usize
+    requires { ⌜ 0 < n ⌝ }
+    ensures { λ r. ⌜ (r ≡ bucketOf d key n) × (r < n) ⌝ }
+{
+    let a = (key % FACTORS + FIRST) % FACTORS;
+    let b = (key / FACTORS % FACTORS + SECOND) % FACTORS;
+    let sum = d % HALF * a + d / HALF * b;
+    (sum / HALF % n as u64) as usize
+}
