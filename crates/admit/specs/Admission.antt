@@ -1,17 +1,18 @@
 -- What an admission leaves, way by way.
-use Prim.Native.Nat.{ℕ, suc, _+_, _≤_, _<_, min}
+use Prim.Native.Nat.{ℕ, _+_, _≤_, _<_, min}
 use mathlib.Core.Path.{_≡_, refl, sym, ap, subst, _∙_}
-use mathlib.Core.Bool.{Bool, true, false}
+use mathlib.Core.Bool.{Bool, true, false, _||_}
 use mathlib.Core.List.{List, [], _∷_}
 use native.Mathlib.Nat.{zero-add}
 use native.Mathlib.Omega.{arith}
 use lib.Dec.{eqb, ltb}
 use lib.ListN.{length}
 use borrow.Author.Tests.{lt-ltb, le-ltb, ne-eqb}
-use Rattle.words.specs.Lists.{pick, keep}
+use Rattle.words.specs.Lists.{pick}
 use Rattle.words.specs.Find.{without}
 use Rattle.pool_types.specs.Outcomes.{processedOf, refused, done, wrote}
 use Rattle.words.specs.Sums.{cap}
+use Rattle.words.specs.Ids.{idOf}
 use Rattle.pool_types.specs.declared.Counts.{Counts}
 use Rattle.pool_types.specs.declared.MempoolConfig.{MempoolConfig}
 use Rattle.pool_types.specs.declared.Submission.{Submission}
@@ -20,18 +21,19 @@ use Rattle.pool_types.specs.declared.ProcessingOutcome.the-variants.{Declined, 
 use Rattle.weight.specs.Weight.{feePerFactor}
 use Rattle.arguments.specs.Arguments.{feeOf, feeSum}
 use Rattle.arguments.specs.declared.FeeSum.the-variants.{Sum, Beyond}
-use Rattle.entries.specs.Entries.{Entry, pooled}
-use Rattle.entries.specs.Layout.{entriesOf, entries}
+use Rattle.entries.specs.Entries.{Entry, keyOf, pooled}
+use Rattle.entries.specs.declared.fields.PoolEntry.{PoolEntry}
+use Rattle.entries.specs.Layout.{entryOf, entriesOf}
 use Rattle.entries.specs.Layout.{ok-still as entries-still, ok-fewer as entries-fewer}
-use Rattle.entries.specs.Laws.{length-without}
 use Rattle.boxes.specs.Records.{dropOwner, index, conflicts}
 use Rattle.boxes.specs.Flat.{idsOf}
 use Rattle.boxes.specs.Layout.{room-still}
-use Rattle.pool.specs.Pool.{Tables, tablesOf, PoolFits, Room, Left, insertTx, removeTx, removeAll, evicted}
+use Rattle.pool.specs.Pool.{Tables, PoolFits, Room, Fewer, Left, insertTx, removeTx, removeAll, evicted}
 use Rattle.family.specs.Family.{propagated}
 use Rattle.answers.specs.Answers.{Wrote, wrote-nothing, wrote-both}
 use Rattle.admit.specs.Admit.{Admitted, costOf, loses, crowded, newcomer, joined, settled, seated, contested, admitSpec}
 use Rattle.admit.specs.Evictions.{Evicts}
+use Rattle.admit.specs.Placed.{writtenOf, ofAdmission}
 use Rattle.admit.specs.declared.admission.Admission.{Admission}
 use Rattle.admit.specs.declared.evictions.Evicted.{Evicted}
 
@@ -48,36 +50,74 @@ room-fits e b c needed r =
     record { entries = entries-fewer e (c .pooled) (c .pooled + 1) (r .entries) (omega arith); boxes = r .boxes }
 
 -- removals leave no more than there was, and so no less room
-length-keep : {A : Type 0} (p : A → Bool) (l : List A) → length (keep p l) ≤ length l
-length-keep p [] = omega arith
-length-keep {A} p (x ∷ l) = go (p x) (length-keep p l)
-  where
-    go : (t : Bool) → length (keep p l) ≤ length l → length (pick t (x ∷ keep p l) (keep p l)) ≤ suc (length l)
-    go true h = omega arith
-    go false h = omega arith
-
-abbrev Within : Tables → Tables → Type 0
-Within u t = (length (u .entries) ≤ length (t .entries)) × (length (u .boxes) ≤ length (t .boxes))
-
-remove-within : (k : ℕ) (t : Tables) → Within (removeTx k t) t
-remove-within k t = go (pooled k (t .entries))
-  where
-    go : (p : Bool) → Within (pick p (record { entries = without (λ e. e .id) k (t .entries); boxes = dropOwner k (t .boxes) }) t) t
-    go true = (omega (arith, length-without k (t .entries)), length-keep _ (t .boxes))
-    go false = (omega arith, omega arith)
-
-all-within : (ks : List ℕ) (t : Tables) → Within (removeAll ks t) t
-all-within [] t = (omega arith, omega arith)
-all-within (k ∷ ks) t = let h = remove-within k t in let g = all-within ks (removeTx k t) in (omega (arith, h .0, g .0), omega (arith, h .1, g .1))
-
-pub room-after : (e b m o : List ℕ) (c d : Counts) (needed : ℕ) (ks : List ℕ) → Room e b c needed → length m ≡ length e → length o ≡ length b → Left m o d (removeAll ks (tablesOf e b c)) → Room m o d needed
-room-after e b m o c d needed ks r p q h =
-    let w = all-within ks (tablesOf e b c) in
+pub room-after : (e b m o : List ℕ) (c d : Counts) (needed : ℕ) → Room e b c needed → length m ≡ length e → length o ≡ length b → Fewer m o c d → Room m o d needed
+room-after e b m o c d needed r p q f =
     record {
-      entries = entries-still e m (d .pooled + 1) (c .pooled + 1) (r .entries) p (omega (arith, w .0, ap (λ (t : Tables). length (t .entries)) (h .tables), entries .len m (d .pooled), entries .len e (c .pooled)));
-      boxes = h .fits .boxes;
-      free = omega (arith, w .1, ap (λ (t : Tables). length (t .boxes)) (h .tables), r .free, room-still b o q);
+      entries = entries-still e m (d .pooled + 1) (c .pooled + 1) (r .entries) p (omega (arith, f .entries));
+      boxes = f .fits .boxes;
+      free = omega (arith, f .records, r .free, room-still b o q);
     }
+
+-- words of entries that are as many have as much room
+pub fits-still : (e m b : List ℕ) (c : Counts) → PoolFits e b c → length m ≡ length e → PoolFits m b c
+fits-still e m b c f p = record { entries = entries-still e m (c .pooled) (c .pooled) (f .entries) p (omega arith); boxes = f .boxes }
+
+-- ---- an id that is not pooled is not pooled after removals
+
+module _ (k : ℕ) where
+  off-one : (j : ℕ) (es : List Entry) → pooled k es ≡ false → pooled k (without keyOf j es) ≡ false
+  off-one j [] h = refl
+  off-one j (e ∷ es) h = go (eqb (e .id) j) (eqb (e .id) k) refl (off-one j es) h
+    where
+      go : (t u : Bool) → eqb (e .id) k ≡ u → (pooled k es ≡ false → pooled k (without keyOf j es) ≡ false) → pick u true (pooled k es) ≡ false → pooled k (pick t es (e ∷ without keyOf j es)) ≡ false
+      go t true q ih z = let z' : _≡_ {A = ℕ} 0 1 = cc in absurd (omega arith)
+      go true false q ih z = z
+      go false false q ih z = rw q (ih z)
+
+  off-tx : (j : ℕ) (t : Tables) → pooled k (t .entries) ≡ false → pooled k (removeTx j t .entries) ≡ false
+  off-tx j t h = go (pooled j (t .entries))
+    where
+      go : (u : Bool) → pooled k (pick u (record { entries = without keyOf j (t .entries); boxes = dropOwner j (t .boxes) }) t .entries) ≡ false
+      go true = off-one j (t .entries) h
+      go false = h
+
+  off-all : (ks : List ℕ) (t : Tables) → pooled k (t .entries) ≡ false → pooled k (removeAll ks t .entries) ≡ false
+  off-all [] t h = h
+  off-all (j ∷ ks) t h = off-all ks (removeTx j t) (off-tx j t h)
+
+  pub still-new : (m o : List ℕ) (d : Counts) (ks : List ℕ) (t : Tables) → Left m o d (removeAll ks t) → pooled k (t .entries) ≡ false → pooled k (entriesOf m (d .pooled)) ≡ false
+  still-new m o d ks t l h = ap (λ (u : Tables). pooled k (u .entries)) (l .tables) ∙ off-all ks t h
+
+-- ---- on any words
+
+-- counts that fit, an outcome of an admission's own, and no more ids told than the buffer has places
+pub record Sound (room : ℕ) (e b : List ℕ) (r : Admission) : Type 0 where
+  pub fits : PoolFits e b (r .counts)
+  pub ours : ofAdmission (processedOf (r .outcome)) ≡ true
+  pub told : writtenOf (processedOf (r .outcome)) ≤ room
+
+module _ (room : ℕ) (e b : List ℕ) (c : Counts) (f : PoolFits e b c) where
+  -- 10 and 30
+  pub sound-declined : (n : ℕ) → (eqb n 10 || (eqb n 29 || eqb n 30)) ≡ true → Sound room e b (record { counts = c; outcome = Declined n })
+  unfolding processedOf ofAdmission writtenOf
+  sound-declined n h = record { fits = f; ours = h; told = omega arith }
+
+  pub sound-lost : (n k : ℕ) → n ≡ min room k → Sound room e b (record { counts = c; outcome = DoubleSpendLoser n })
+  unfolding processedOf ofAdmission writtenOf
+  sound-lost n k h = record { fits = f; ours = refl; told = omega arith }
+
+  -- it is in, with k losers gone
+  pub sound-in : (out : ProcessingOutcome) (k n : ℕ) → processedOf out ≡ pick (eqb k 0) done (wrote (min room n)) → Sound room e b (record { counts = c; outcome = out })
+  unfolding ofAdmission writtenOf
+  sound-in out k n h = record { fits = f; ours = ap ofAdmission h ∙ own (eqb k 0); told = omega (arith, ap writtenOf h, few (eqb k 0)) }
+    where
+      own : (t : Bool) → ofAdmission (pick t done (wrote (min room n))) ≡ true
+      own true = refl
+      own false = refl
+
+      few : (t : Bool) → writtenOf (pick t done (wrote (min room n))) ≤ room
+      few true = omega arith
+      few false = omega arith
 
 -- ---- the newcomer enters: the tables t, u with it, v with its credits, and then the eviction
 
@@ -149,6 +189,11 @@ module _ (visits room : ℕ) (g : MempoolConfig) (t : Tables) (a : Submission) (
     pub fee-contested : Leaves e b r a₀ a₁ (contested visits room (g .capacity) x ins outs (conflicts (index false (t .boxes)) (idsOf 5 ins)) t) → Leaves e b r a₀ a₁ (admitSpec visits room g t a c ins outs)
     unfolding admitSpec
     fee-contested l = rw (← p, le-ltb fee (g .«min_fee») h, ← k, ← q, ← o) l
+
+-- the newcomer's id is the submission's
+pub own-id : (x : PoolEntry) (a : Submission) (c base : ℕ) (ins outs : List ℕ) (es : List Entry) → entryOf x ≡ newcomer a c base ins outs → pooled (idOf (a .id)) es ≡ false → pooled (idOf (x .id)) es ≡ false
+unfolding entryOf newcomer
+own-id x a c base ins outs es p h = ap (λ (e : Entry). pooled (e .id) es) p ∙ h
 
 -- the fee of outputs whose sum is in bounds
 pub fee-read : (outs : List ℕ) → feeOf outs ≤ cap → feeSum outs ≡ Sum (feeOf outs)

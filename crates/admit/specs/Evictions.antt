@@ -13,8 +13,9 @@ use Rattle.words.specs.Find.{last}
 use Rattle.words.specs.Sums.{cap}
 use Rattle.pool_types.specs.declared.Counts.{Counts}
 use Rattle.entries.specs.Layout.{EntriesOk, entriesOf, entries}
-use Rattle.pool.specs.Pool.{Tables, tablesOf, PoolFits, Left, nobody, lowest, dropLow, evict, evicted}
-use Rattle.pool.specs.Laws.{evict-done, evicted-done, length-low, evict-more, evicted-more}
+use Rattle.entries.specs.Cells.{slotCount}
+use Rattle.pool.specs.Pool.{Tables, tablesOf, PoolFits, PoolKept, Left, nobody, lowest, dropLow, evict, evicted}
+use Rattle.pool.specs.Laws.{evict-done, evicted-done, evict-more, evicted-more}
 use Rattle.answers.specs.Answers.{Wrote, Writing, writing-none, writing-more, writing-all}
 use Rattle.admit.specs.Admit.{crowded}
 use Rattle.admit.specs.declared.evictions.Evicted.{Evicted}
@@ -39,7 +40,6 @@ module _ (capacity base : ℕ) (l : List ℕ) (n : ℕ) where
 pub record Evicts (capacity at : ℕ) (w : Bool) (t : Tables) (e b : List ℕ) (r : Evicted) (a₀ a : List ℕ) : Type 0 where
   pub left : Left e b (r .counts) (evict capacity t)
   pub count : r .n ≡ length (evicted capacity t)
-  pub room : at + r .n ≤ cap
   pub wrote : Wrote a₀ a at (pick w (evicted capacity t) [])
 
 -- ---- one after the other: of n that went, what is left to evict gives what all gave at the beginning
@@ -74,12 +74,11 @@ module _ (capacity at : ℕ) (w : Bool) where
         go true p r = writing-more p r
         go false p r = record { kept = r .kept ∙ p .kept; ids = r .ids ∙ p .ids; rest = r .rest ∙ p .rest }
 
-    pub evicting-all : PoolFits e b c → c .pooled ≤ capacity → at + n ≤ cap → Evicts capacity at w t₀ e b (record { counts = c; n = n }) a₀ a
-    evicting-all f g o =
+    pub evicting-all : PoolFits e b c → PoolKept e b c → c .pooled ≤ capacity → Evicts capacity at w t₀ e b (record { counts = c; n = n }) a₀ a
+    evicting-all f k g =
         record {
-          left = record { fits = f; tables = sym (evict-done capacity t h) ∙ v .tables };
+          left = record { fits = f; kept = k; tables = sym (evict-done capacity t h) ∙ v .tables };
           count = omega (arith, v .count, ap length (evicted-done capacity t h));
-          room = o;
           wrote = writing-all (go w (rw (evicted-done capacity t h) at (v .writing)));
         }
       where
@@ -90,13 +89,7 @@ module _ (capacity at : ℕ) (w : Bool) where
         go true z = z
         go false z = z
 
--- an eviction takes one
-pub one-fewer : (e b m o : List ℕ) (c d : Counts) → 0 < c .pooled → tablesOf m o d ≡ dropLow (tablesOf e b c) → d .pooled + 1 ≡ c .pooled
-one-fewer e b m o c d h q =
-    let p : length (entriesOf e (c .pooled)) ≡ c .pooled = entries .len e (c .pooled) in
-    omega (arith, entries .len m (d .pooled), ap (λ (t : Tables). length (t .entries)) q, length-low 0 (tablesOf e b c) (omega arith))
-
--- an entry takes more than one word, so that so many more are still a number of 64 bits
+-- so many more than entries are still a number of 64 bits
 pub few : (l : List ℕ) (n : ℕ) → EntriesOk l n → length l ≤ cap → 5001 + n ≤ cap
 unfolding EntriesOk
-few l n h b = omega arith
+few l n h b = let q : n ≤ slotCount l = h in omega arith

@@ -4,4 +4,3 @@ pub mod Evictions
 pub mod Admission
 pub mod Spares
 pub mod Placed
-pub mod Alone

@@ -1,14 +1,14 @@
 -- The ids that an admission's outcome counts have their places in the answer buffer: on any tables it counts no more than the buffer has, and on tables
 -- that a start and calls left, where the buffer has a place for each pooled transaction and one more, it counts every id that is to be written.
-use Prim.Native.Nat.{ℕ, zero, suc, _+_, _≤_, _<_, min}
+use Prim.Native.Nat.{ℕ, zero, suc, _+_, _≤_, min}
 use mathlib.Core.Path.{_≡_, refl, sym, ap, _∙_}
-use mathlib.Core.Bool.{Bool, true, false, _&&_}
+use mathlib.Core.Bool.{Bool, true, false, _&&_, _||_}
 use mathlib.Core.List.{List, [], _∷_, _++_, map}
 use native.Mathlib.Omega.{arith}
 use lib.Dec.{eqb, leb, ltb}
 use lib.ListN.{length, length-append}
 use borrow.Author.Tests.{eq-eqb, eqb-true, eqb-false}
-use Rattle.words.specs.Lists.{pick, yes, count, flat, Once, once-head, once-tail, count-append, absent-head, absent-tail}
+use Rattle.words.specs.Lists.{pick, count, flat, Once, once-head, once-tail, count-append, absent-head, absent-tail}
 use Rattle.words.specs.Find.{without, found, putBack}
 use Rattle.pool_types.specs.declared.MempoolConfig.{MempoolConfig}
 use Rattle.pool_types.specs.declared.Submission.{Submission}
@@ -18,7 +18,7 @@ use Rattle.entries.specs.Entries.{Entry, weightOf, keyOf, insertBy, pooled, rai
 use Rattle.entries.specs.Order.{length-insert}
 use Rattle.entries.specs.InOrder.{not-pooled}
 use Rattle.entries.specs.Laws.{length-without}
-use Rattle.boxes.specs.Records.{BoxRec, Pair, same, dropOwner, index, lookup, parents, once, dedup, conflicts}
+use Rattle.boxes.specs.Records.{BoxRec, Pair, same, index, lookup, parents, once, dedup, conflicts}
 use Rattle.boxes.specs.Each.{Each}
 use Rattle.boxes.specs.IndexLaws.{Unowned}
 use Rattle.boxes.specs.Flat.{idsOf}
@@ -43,6 +43,43 @@ writtenOf (said t) = 0
 writtenOf (entry k w b) = 0
 writtenOf none = 0
 
+-- the outcomes of an admission: no other refusal than 10, 29 and 30
+unfoldable pub ofAdmission : Outcome → Bool
+ofAdmission (refused j i) = eqb j 10 || (eqb j 29 || eqb j 30)
+ofAdmission done = true
+ofAdmission (wrote n) = true
+ofAdmission needed = false
+ofAdmission (candidate k) = false
+ofAdmission (ended n) = false
+ofAdmission (missing k) = false
+ofAdmission (invalid k) = false
+ofAdmission (valid k) = false
+ofAdmission (number n) = false
+ofAdmission (said t) = false
+ofAdmission (entry k w b) = false
+ofAdmission none = false
+
+-- what holds of these holds of the outcome of an admission
+module _ (P : Outcome → Type 0) (in-place : P done) (replaced : (n : ℕ) → P (wrote n)) (declined : (j i : ℕ) → (eqb j 10 || (eqb j 29 || eqb j 30)) ≡ true → P (refused j i)) where
+  no : {A : Type 0} → false ≡ true → A
+  no h = let z : _≡_ {A = ℕ} 0 1 = cc in absurd (omega arith)
+
+  pub admission-cases : (o : Outcome) → ofAdmission o ≡ true → P o
+  unfolding ofAdmission
+  admission-cases (refused j i) h = declined j i h
+  admission-cases done h = in-place
+  admission-cases (wrote n) h = replaced n
+  admission-cases needed h = no h
+  admission-cases (candidate k) h = no h
+  admission-cases (ended n) h = no h
+  admission-cases (missing k) h = no h
+  admission-cases (invalid k) h = no h
+  admission-cases (valid k) h = no h
+  admission-cases (number n) h = no h
+  admission-cases (said t) h = no h
+  admission-cases (entry k w b) h = no h
+  admission-cases none h = no h
+
 picked : (P : Admitted → Type 0) (t : Bool) (x y : Admitted) → P x → P y → P (pick t x y)
 picked P true x y p q = p
 picked P false x y p q = q
@@ -61,19 +98,6 @@ module _ (P : Outcome → Type 0) (room : ℕ) (lost : (n : ℕ) → n ≤ room 
       picked (λ d. P (d .outcome)) (ltb (feeOf outs) (g .«min_fee»)) _ _ low
       (picked (λ d. P (d .outcome)) (loses _ _ (t .entries)) _ _ (lost _ (omega arith))
       (picked (λ d. P (d .outcome)) (crowded (g .capacity) _ _) _ _ full (settled-outcome (g .capacity) _ _)))
-
--- 'verdict needed' is none of them
-pub answered : (visits room : ℕ) (g : MempoolConfig) (t : Tables) (a : Submission) (c : ℕ) (ins outs : List ℕ) → admitSpec visits room g t a c ins outs .outcome ≡ needed → ⊥
-answered visits room g t a c ins outs =
-    admit-outcome (λ o. o ≡ needed → ⊥) room (λ n h q. never cc) (λ q. never cc) (λ q. never cc) (λ n h q. never cc) visits g t a c ins outs (λ q. never cc)
-  where
-    never : _≡_ {A = ℕ} 0 1 → ⊥
-    never z = omega arith
-
-pub told : (visits room : ℕ) (g : MempoolConfig) (t : Tables) (a : Submission) (c : ℕ) (ins outs : List ℕ) → writtenOf (admitSpec visits room g t a c ins outs .outcome) ≤ room
-unfolding writtenOf
-told visits room g t a c ins outs =
-    admit-outcome (λ o. writtenOf o ≤ room) room (λ n h. h) (omega arith) (omega arith) (λ n h. h) visits g t a c ins outs (omega arith)
 
 -- ---- conflicts are distinct
 

@@ -2,27 +2,25 @@
 use Prim.Native.Nat.{ℕ}
 use mathlib.Core.Path.{_≡_, refl, sym, _∙_}
 use mathlib.Core.Bool.{Bool, true, false}
-use mathlib.Core.List.{List, []}
+use mathlib.Core.List.{List}
 use native.Mathlib.Omega.{arith}
 use lib.Dec.{eqb}
 use borrow.Author.Tests.{eqb-false}
 use Rattle.words.specs.Lists.{pick}
 use Rattle.pool_types.specs.declared.Counts.{Counts}
 use Rattle.pool_types.specs.declared.ProcessingOutcome.{ProcessingOutcome}
-use Rattle.pool_types.specs.declared.ProcessingOutcome.the-variants.{Accepted, Declined, DoubleSpendLoser}
-use Rattle.pool_types.specs.Outcomes.{Outcome, refused, done, wrote, processedOf}
+use Rattle.pool_types.specs.declared.ProcessingOutcome.the-variants.{Declined, DoubleSpendLoser}
+use Rattle.pool_types.specs.Outcomes.{refused, done, wrote, processedOf}
 use Rattle.admit.specs.declared.admission.Admission.{Admission}
 
 -- both tables and the counts are as they were
 abbrev pub SameTables : List ℕ → List ℕ → Counts → List ℕ → List ℕ → Counts → Type 0
 SameTables e b c e' b' c' = (e' ≡ e) × (b' ≡ b) × (c' ≡ c)
 
--- words e and b of the tables with counts c, and an answer buffer a, before; e', b', a' after. ks are the newcomer's conflicts
-pub record SparesWords (ks e b a : List ℕ) (c : Counts) (e' b' a' : List ℕ) (r : Admission) : Type 0 where
+-- words e and b of the tables with counts c, and an answer buffer a, before; e', b', a' after
+pub record SparesWords (e b a : List ℕ) (c : Counts) (e' b' a' : List ℕ) (r : Admission) : Type 0 where
   -- a refusal changes no word of the tables, but for 30: "removal of losers" stands
   pub tables : (j i : ℕ) → processedOf (r .outcome) ≡ refused j i → eqb j 30 ≡ false → SameTables e b c e' b' (r .counts)
-  -- .. and 30 changes none where nobody is in conflict
-  pub nobody : (j i : ℕ) → processedOf (r .outcome) ≡ refused j i → ks ≡ [] → SameTables e b c e' b' (r .counts)
   -- a refusal writes no answer word, but for 29: "their ids are written"
   pub answer : (j i : ℕ) → processedOf (r .outcome) ≡ refused j i → eqb j 29 ≡ false → a' ≡ a
 
@@ -50,36 +48,21 @@ unmoved-in e b a c e' b' a' d out k n p =
     go true q = never cc
     go false q = never cc
 
-pub unmoved-accepted : (e b a : List ℕ) (c : Counts) (e' b' a' : List ℕ) (d : Counts) → Unmoved e b a c e' b' a' (record { counts = d; outcome = Accepted })
-unfolding processedOf
-unmoved-accepted e b a c e' b' a' d = unmoved-in e b a c e' b' a' d Accepted 0 0 refl
-
 -- ---- way by way
 
 -- nothing changed
-pub spares-all : (ks e b a : List ℕ) (c : Counts) (out : ProcessingOutcome) → SparesWords ks e b a c e b a (record { counts = c; outcome = out })
-spares-all ks e b a c out = record { tables = λ j i q h. (refl, refl, refl); nobody = λ j i q h. (refl, refl, refl); answer = λ j i q h. refl }
+pub spares-all : (e b a : List ℕ) (c : Counts) (out : ProcessingOutcome) → SparesWords e b a c e b a (record { counts = c; outcome = out })
+spares-all e b a c out = record { tables = λ j i q h. (refl, refl, refl); answer = λ j i q h. refl }
 
 -- 29
-pub spares-lost : (ks e b a : List ℕ) (c : Counts) (a' : List ℕ) (k : ℕ) → SparesWords ks e b a c e b a' (record { counts = c; outcome = DoubleSpendLoser k })
+pub spares-lost : (e b a : List ℕ) (c : Counts) (a' : List ℕ) (k : ℕ) → SparesWords e b a c e b a' (record { counts = c; outcome = DoubleSpendLoser k })
 unfolding processedOf
-spares-lost ks e b a c a' k =
-    record {
-      tables = λ j i q h. (refl, refl, refl);
-      nobody = λ j i q h. (refl, refl, refl);
-      answer = λ j i q h. absurd (eqb-false j 29 h cc);
-    }
+spares-lost e b a c a' k = record { tables = λ j i q h. (refl, refl, refl); answer = λ j i q h. absurd (eqb-false j 29 h cc) }
 
--- after the losers went: words m and o with counts d, the same where there were none
-module _ (ks e b a : List ℕ) (c : Counts) (m o : List ℕ) (d : Counts) (e' b' a' : List ℕ) (r : Admission) where
-  pub spares-won : (ks ≡ [] → SameTables e b c m o d) → Unmoved m o a d e' b' a' r → SparesWords ks e b a c e' b' a' r
-  spares-won f u =
-      record {
-        tables = λ j i q h. absurd (eqb-false j 30 h (u .full j i q));
-        nobody = λ j i q h. let t = u .tables j i q in let s = f h in (t .0 ∙ s .0, t .1 ∙ s .1, t .2 ∙ s .2);
-        answer = λ j i q h. u .answer j i q;
-      }
+-- after the losers went, which left words m and o with counts d
+pub spares-won : (e b a : List ℕ) (c : Counts) (m o : List ℕ) (d : Counts) (e' b' a' : List ℕ) (r : Admission) → Unmoved m o a d e' b' a' r → SparesWords e b a c e' b' a' r
+spares-won e b a c m o d e' b' a' r u = record { tables = λ j i q h. absurd (eqb-false j 30 h (u .full j i q)); answer = λ j i q h. u .answer j i q }
 
 -- nobody was in conflict
-pub spares-seated : (ks e b a : List ℕ) (c : Counts) (e' b' a' : List ℕ) (r : Admission) → Unmoved e b a c e' b' a' r → SparesWords ks e b a c e' b' a' r
-spares-seated ks e b a c e' b' a' r u = record { tables = λ j i q h. u .tables j i q; nobody = λ j i q h. u .tables j i q; answer = λ j i q h. u .answer j i q }
+pub spares-seated : (e b a : List ℕ) (c : Counts) (e' b' a' : List ℕ) (r : Admission) → Unmoved e b a c e' b' a' r → SparesWords e b a c e' b' a' r
+spares-seated e b a c e' b' a' r u = record { tables = λ j i q h. u .tables j i q; answer = λ j i q h. u .answer j i q }

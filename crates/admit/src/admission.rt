@@ -3,7 +3,6 @@ use crate::contests::is_loser;
 use crate::evictions::Evicted;
 use crate::evictions::evict_to;
 use crate::evictions::is_crowded;
-use crate::evictions::lowest_or;
 use answers::places;
 use answers::write_ids;
 use arguments::FeeSum;
@@ -15,23 +14,16 @@ use entries::fields::ValidationCost;
 use family::propagate_family_weight;
 use indexes::conflicts::any_spent;
 use indexes::conflicts::conflicts;
-use indexes::quiet::Quiet;
-use indexes::quiet::scan;
 use pool::insert;
-use pool::insert_alone;
-use pool::is_ready;
 use pool::remove_all;
 use pool_types::Counts;
 use pool_types::MempoolConfig;
 use pool_types::ProcessingOutcome;
-use pool_types::Source;
 use pool_types::Submission;
 use weight::fee_per_factor;
-use words::ids::Id;
-use words::sums::saturating_add;
+use words::sums::smaller;
 ghost use mathlib.Core.Path.{_≡_};
-ghost use mathlib.Core.Bool.{true, false};
-ghost use mathlib.Core.List.{[]};
+ghost use mathlib.Core.Bool.{false};
 ghost use Prim.Native.Nat.{_+_, _/_, _≤_, min};
 ghost use lib.Dec.{eqb};
 ghost use lib.ListN.{length};
@@ -40,17 +32,16 @@ ghost use Rattle.words.specs.Ids.{idOf};
 ghost use Rattle.words.specs.Sums.{cap};
 ghost use Rattle.pool_types.specs.Outcomes.{processedOf, done, wrote};
 ghost use Rattle.arguments.specs.Arguments.{feeOf};
-ghost use Rattle.entries.specs.Layout.{entryOf};
+ghost use Rattle.entries.specs.Entries.{pooled};
+ghost use Rattle.entries.specs.Layout.{entryOf, entriesOf};
 ghost use Rattle.boxes.specs.Records.{index, conflicts};
-ghost use Rattle.boxes.specs.Layout.{BoxesOk, boxesOf};
+ghost use Rattle.boxes.specs.Layout.{boxesOf};
 ghost use Rattle.boxes.specs.Flat.{countOf, idsTo, idsOf};
-ghost use Rattle.indexes.specs.Quiet.{Quietly};
-ghost use Rattle.pool.specs.Pool.{Room, tablesOf};
-ghost use Rattle.admit.specs.Admit.{costOf, chargedSum, newcomer, joined, seated, contested, admitSpec};
+ghost use Rattle.pool.specs.Pool.{PoolFits, PoolKept, Room, tablesOf};
+ghost use Rattle.admit.specs.Admit.{costOf, newcomer, joined, seated, contested, admitSpec};
 ghost use Rattle.admit.specs.Evictions.{Evicts};
-ghost use Rattle.admit.specs.Admission.{Leaves};
+ghost use Rattle.admit.specs.Admission.{Sound, Leaves};
 ghost use Rattle.admit.specs.Spares.{SparesWords, Unmoved};
-ghost use Rattle.admit.specs.Placed.{writtenOf};
 
 // More inputs were refused with 7.
 const MAX_TX_INPUTS: usize = 5000;
@@ -69,16 +60,6 @@ pub fn cost_of(verdict: u64, size: u64) -> u64
     ensures { λ r. ⌜ r ≡ costOf verdict size ⌝ }
 {
     if verdict < size { size } else { verdict }
-}
-
-// The block sum after a submission that costs so much: only a remote one is charged.
-pub fn charged_sum(source: Source, sum: u64, cost: u64) -> u64
-    ensures { λ r. ⌜ r ≡ chargedSum source sum cost ⌝ }
-{
-    match source {
-        Source::Local => sum,
-        Source::Peer(_) => saturating_add(sum, cost),
-    }
 }
 
 // The newcomer's entry.
@@ -116,67 +97,15 @@ fn enter(
 ) -> Evicted
     requires { ⌜ Room (now entries) (now boxes) counts (countOf 5 (now inputs) + countOf 7 (now outputs)) ⌝ }
     requires { ⌜ at ≤ 5000 ⌝ }
-    ensures { λ r. ⌜ Evicts capacity at write (joined 500 (entryOf e) (now (inputs .entry)) (now (outputs .entry)) (tablesOf (now (entries .entry)) (now (boxes .entry)) counts)) (now (entries .exit)) (now (boxes .exit)) r (now (answer .entry)) (now (answer .exit)) ⌝ }
+    ensures { λ r. ⌜ PoolFits (now (entries .exit)) (now (boxes .exit)) (r .counts) × (at + r .n ≤ cap) ⌝ }
+    ensures { λ r. ⌜ (PoolKept (now (entries .entry)) (now (boxes .entry)) counts → pooled (idOf (e .id)) (entriesOf (now (entries .entry)) (counts .pooled)) ≡ false
+        → Evicts capacity at write (joined 500 (entryOf e) (now (inputs .entry)) (now (outputs .entry)) (tablesOf (now (entries .entry)) (now (boxes .entry)) counts)) (now (entries .exit)) (now (boxes .exit)) r (now (answer .entry)) (now (answer .exit))) ⌝ }
 {
     let id = e.id;
     let base = e.base;
     let entered = insert(entries, boxes, counts, e, inputs, 5, outputs, 7);
     propagate_family_weight(entries, boxes, entered, id, base);
-    evict_to(
-        entries,
-        boxes,
-        entered,
-        capacity,
-        answer,
-        at,
-        write,
-        id,
-        0,
-        0,
-        0,
-    )
-}
-
-// The same for one that stands alone: nothing is hidden for it, and it has no family to credit. `low` owns none of the slots before `first`
-// and none from `last` on.
-fn enter_alone(
-    entries: &mut [u64],
-    boxes: &mut [u64],
-    counts: Counts,
-    e: PoolEntry,
-    inputs: &[u64],
-    outputs: &[u64],
-    capacity: usize,
-    answer: &mut [u64],
-    low: Id,
-    first: usize,
-    last: usize,
-) -> Evicted
-    requires { ⌜ Room (now entries) (now boxes) counts (countOf 5 (now inputs) + countOf 7 (now outputs)) ⌝ }
-    requires { ⌜ Quietly (now boxes) (counts .records) first last (idOf (e .id)) (idOf low) (idsOf 5 (now inputs)) (idsOf 7 (now outputs)) ⌝ }
-    requires { ⌜ BoxesOk (now boxes) (counts .records + (countOf 5 (now inputs) + countOf 7 (now outputs))) ⌝ }
-    ensures { λ r. ⌜ Evicts capacity 0 false (joined 500 (entryOf e) (now (inputs .entry)) (now (outputs .entry)) (tablesOf (now (entries .entry)) (now (boxes .entry)) counts)) (now (entries .exit)) (now (boxes .exit)) r (now (answer .entry)) (now (answer .exit)) ⌝ }
-{
-    let joined = insert_alone(entries, boxes, counts, e, inputs, 5, outputs, 7);
-    evict_to(
-        entries,
-        boxes,
-        joined,
-        capacity,
-        answer,
-        0,
-        false,
-        low,
-        first,
-        last,
-        counts.records,
-    )
-}
-
-fn smaller(a: usize, b: usize) -> usize
-    ensures { λ r. ⌜ r ≡ min a b ⌝ }
-{
-    if a < b { a } else { b }
+    evict_to(entries, boxes, entered, capacity, answer, at, write)
 }
 
 // Where so many losers went: of the ids that were to be written those are counted that the answer buffer has room for.
@@ -205,8 +134,10 @@ fn seat(
 ) -> Admission
     requires { ⌜ Room (now entries) (now boxes) counts (countOf 5 (now inputs) + countOf 7 (now outputs)) ⌝ }
     requires { ⌜ (k ≤ countOf 4 (now list)) × (k ≤ 5000) ⌝ }
-    ensures { λ r. ⌜ Leaves (now (entries .exit)) (now (boxes .exit)) r (now (answer .entry)) (now (answer .exit)) (seated 500 (length (now (answer .entry)) / 4) capacity (entryOf e) (now (inputs .entry)) (now (outputs .entry)) (idsTo 4 (now (list .entry)) k) (tablesOf (now (entries .entry)) (now (boxes .entry)) counts)) ⌝ }
+    ensures { λ r. ⌜ Sound (length (now (answer .entry)) / 4) (now (entries .exit)) (now (boxes .exit)) r ⌝ }
     ensures { λ r. ⌜ Unmoved (now (entries .entry)) (now (boxes .entry)) (now (answer .entry)) counts (now (entries .exit)) (now (boxes .exit)) (now (answer .exit)) r ⌝ }
+    ensures { λ r. ⌜ (PoolKept (now (entries .entry)) (now (boxes .entry)) counts → pooled (idOf (e .id)) (entriesOf (now (entries .entry)) (counts .pooled)) ≡ false
+        → Leaves (now (entries .exit)) (now (boxes .exit)) r (now (answer .entry)) (now (answer .exit)) (seated 500 (length (now (answer .entry)) / 4) capacity (entryOf e) (now (inputs .entry)) (now (outputs .entry)) (idsTo 4 (now (list .entry)) k) (tablesOf (now (entries .entry)) (now (boxes .entry)) counts))) ⌝ }
 {
     if is_crowded(entries, counts, capacity, e.base) {
         return Admission {
@@ -235,52 +166,6 @@ fn seat(
     }
 }
 
-// 30, or a newcomer that stands alone takes its place.
-fn seat_alone(
-    entries: &mut [u64],
-    boxes: &mut [u64],
-    counts: Counts,
-    e: PoolEntry,
-    inputs: &[u64],
-    outputs: &[u64],
-    capacity: usize,
-    answer: &mut [u64],
-    low: Id,
-    first: usize,
-    last: usize,
-) -> Admission
-    requires { ⌜ Room (now entries) (now boxes) counts (countOf 5 (now inputs) + countOf 7 (now outputs)) ⌝ }
-    requires { ⌜ Quietly (now boxes) (counts .records) first last (idOf (e .id)) (idOf low) (idsOf 5 (now inputs)) (idsOf 7 (now outputs)) ⌝ }
-    requires { ⌜ BoxesOk (now boxes) (counts .records + (countOf 5 (now inputs) + countOf 7 (now outputs))) ⌝ }
-    ensures { λ r. ⌜ Leaves (now (entries .exit)) (now (boxes .exit)) r (now (answer .entry)) (now (answer .exit)) (seated 500 (length (now (answer .entry)) / 4) capacity (entryOf e) (now (inputs .entry)) (now (outputs .entry)) [] (tablesOf (now (entries .entry)) (now (boxes .entry)) counts)) ⌝ }
-    ensures { λ r. ⌜ Unmoved (now (entries .entry)) (now (boxes .entry)) (now (answer .entry)) counts (now (entries .exit)) (now (boxes .exit)) (now (answer .exit)) r ⌝ }
-{
-    if is_crowded(entries, counts, capacity, e.base) {
-        return Admission {
-            counts,
-            outcome: ProcessingOutcome::Declined(30),
-        };
-    }
-    let left = enter_alone(
-        entries,
-        boxes,
-        counts,
-        e,
-        inputs,
-        outputs,
-        capacity,
-        answer,
-        low,
-        first,
-        last,
-    );
-    let after = left.counts;
-    Admission {
-        counts: after,
-        outcome: ProcessingOutcome::Accepted,
-    }
-}
-
 // 29, or the transactions that spend one of the newcomer's boxes go.
 fn contest(
     entries: &mut [u64],
@@ -294,8 +179,10 @@ fn contest(
 ) -> Admission
     requires { ⌜ Room (now entries) (now boxes) counts (countOf 5 (now inputs) + countOf 7 (now outputs)) ⌝ }
     requires { ⌜ countOf 5 (now inputs) ≤ 5000 ⌝ }
-    ensures { λ r. ⌜ Leaves (now (entries .exit)) (now (boxes .exit)) r (now (answer .entry)) (now (answer .exit)) (contested 500 (length (now (answer .entry)) / 4) capacity (entryOf e) (now (inputs .entry)) (now (outputs .entry)) (conflicts (index false (boxesOf (now (boxes .entry)) (counts .records))) (idsOf 5 (now (inputs .entry)))) (tablesOf (now (entries .entry)) (now (boxes .entry)) counts)) ⌝ }
-    ensures { λ r. ⌜ SparesWords (conflicts (index false (boxesOf (now (boxes .entry)) (counts .records))) (idsOf 5 (now (inputs .entry)))) (now (entries .entry)) (now (boxes .entry)) (now (answer .entry)) counts (now (entries .exit)) (now (boxes .exit)) (now (answer .exit)) r ⌝ }
+    ensures { λ r. ⌜ Sound (length (now (answer .entry)) / 4) (now (entries .exit)) (now (boxes .exit)) r ⌝ }
+    ensures { λ r. ⌜ SparesWords (now (entries .entry)) (now (boxes .entry)) (now (answer .entry)) counts (now (entries .exit)) (now (boxes .exit)) (now (answer .exit)) r ⌝ }
+    ensures { λ r. ⌜ (PoolKept (now (entries .entry)) (now (boxes .entry)) counts → pooled (idOf (e .id)) (entriesOf (now (entries .entry)) (counts .pooled)) ≡ false
+        → Leaves (now (entries .exit)) (now (boxes .exit)) r (now (answer .entry)) (now (answer .exit)) (contested 500 (length (now (answer .entry)) / 4) capacity (entryOf e) (now (inputs .entry)) (now (outputs .entry)) (conflicts (index false (boxesOf (now (boxes .entry)) (counts .records))) (idsOf 5 (now (inputs .entry)))) (tablesOf (now (entries .entry)) (now (boxes .entry)) counts))) ⌝ }
 {
     let mut list = [0u64; CONFLICT_WORDS];
     let k = conflicts(boxes, counts.records, inputs, 5, &mut list);
@@ -323,31 +210,7 @@ fn contest(
     )
 }
 
-// Whether the newcomer stands alone, told in one scan. It is not asked where an insertion would move the records together: what the scan tells of
-// their slots holds only while they stay.
-fn stands_alone(
-    boxes: &[u64],
-    counts: Counts,
-    id: Id,
-    low: Id,
-    inputs: &[u64],
-    outputs: &[u64],
-) -> Quiet
-    requires { ⌜ BoxesOk (now boxes) (counts .records) ⌝ }
-    ensures { λ r. ⌜ (r .yes ≡ true → Quietly (now (boxes .entry)) (counts .records) (r .first) (r .last) (idOf id) (idOf low) (idsOf 5 (now (inputs .entry))) (idsOf 7 (now (outputs .entry))) × BoxesOk (now (boxes .entry)) (counts .records + (countOf 5 (now (inputs .entry)) + countOf 7 (now (outputs .entry))))) ⌝ }
-{
-    let needed = count_records(inputs, 5) + count_records(outputs, 7);
-    if !is_ready(boxes, counts, needed) {
-        return Quiet {
-            yes: false,
-            first: 0,
-            last: 0,
-        };
-    }
-    scan(boxes, counts.records, id, low, inputs, 5, outputs, 7)
-}
-
-// Whether the newcomer stands alone, or has nobody to contest with, is told in one scan each: most do, and no list is cleared for them.
+// Whether the newcomer has anybody to contest with is asked first: most have nobody, and no list is cleared for them.
 fn find_place(
     entries: &mut [u64],
     boxes: &mut [u64],
@@ -360,27 +223,11 @@ fn find_place(
 ) -> Admission
     requires { ⌜ Room (now entries) (now boxes) counts (countOf 5 (now inputs) + countOf 7 (now outputs)) ⌝ }
     requires { ⌜ countOf 5 (now inputs) ≤ 5000 ⌝ }
-    ensures { λ r. ⌜ Leaves (now (entries .exit)) (now (boxes .exit)) r (now (answer .entry)) (now (answer .exit)) (contested 500 (length (now (answer .entry)) / 4) capacity (entryOf e) (now (inputs .entry)) (now (outputs .entry)) (conflicts (index false (boxesOf (now (boxes .entry)) (counts .records))) (idsOf 5 (now (inputs .entry)))) (tablesOf (now (entries .entry)) (now (boxes .entry)) counts)) ⌝ }
-    ensures { λ r. ⌜ SparesWords (conflicts (index false (boxesOf (now (boxes .entry)) (counts .records))) (idsOf 5 (now (inputs .entry)))) (now (entries .entry)) (now (boxes .entry)) (now (answer .entry)) counts (now (entries .exit)) (now (boxes .exit)) (now (answer .exit)) r ⌝ }
+    ensures { λ r. ⌜ Sound (length (now (answer .entry)) / 4) (now (entries .exit)) (now (boxes .exit)) r ⌝ }
+    ensures { λ r. ⌜ SparesWords (now (entries .entry)) (now (boxes .entry)) (now (answer .entry)) counts (now (entries .exit)) (now (boxes .exit)) (now (answer .exit)) r ⌝ }
+    ensures { λ r. ⌜ (PoolKept (now (entries .entry)) (now (boxes .entry)) counts → pooled (idOf (e .id)) (entriesOf (now (entries .entry)) (counts .pooled)) ≡ false
+        → Leaves (now (entries .exit)) (now (boxes .exit)) r (now (answer .entry)) (now (answer .exit)) (contested 500 (length (now (answer .entry)) / 4) capacity (entryOf e) (now (inputs .entry)) (now (outputs .entry)) (conflicts (index false (boxesOf (now (boxes .entry)) (counts .records))) (idsOf 5 (now (inputs .entry)))) (tablesOf (now (entries .entry)) (now (boxes .entry)) counts))) ⌝ }
 {
-    let id = e.id;
-    let low = lowest_or(entries, counts, id);
-    let q = stands_alone(boxes, counts, id, low, inputs, outputs);
-    if q.yes {
-        return seat_alone(
-            entries,
-            boxes,
-            counts,
-            e,
-            inputs,
-            outputs,
-            capacity,
-            answer,
-            low,
-            q.first,
-            q.last,
-        );
-    }
     if any_spent(boxes, counts.records, inputs, 5) {
         return contest(entries, boxes, counts, e, inputs, outputs, capacity, answer);
     }
@@ -414,8 +261,10 @@ fn offer(
 ) -> Admission
     requires { ⌜ Room (now entries) (now boxes) counts (countOf 5 (now inputs) + countOf 7 (now outputs)) ⌝ }
     requires { ⌜ (countOf 5 (now inputs) ≤ 5000) × (fee ≡ feeOf (now outputs)) ⌝ }
-    ensures { λ r. ⌜ Leaves (now (entries .exit)) (now (boxes .exit)) r (now (answer .entry)) (now (answer .exit)) (admitSpec 500 (length (now (answer .entry)) / 4) config (tablesOf (now (entries .entry)) (now (boxes .entry)) counts) sub cost (now (inputs .entry)) (now (outputs .entry))) ⌝ }
-    ensures { λ r. ⌜ SparesWords (conflicts (index false (boxesOf (now (boxes .entry)) (counts .records))) (idsOf 5 (now (inputs .entry)))) (now (entries .entry)) (now (boxes .entry)) (now (answer .entry)) counts (now (entries .exit)) (now (boxes .exit)) (now (answer .exit)) r ⌝ }
+    ensures { λ r. ⌜ Sound (length (now (answer .entry)) / 4) (now (entries .exit)) (now (boxes .exit)) r ⌝ }
+    ensures { λ r. ⌜ SparesWords (now (entries .entry)) (now (boxes .entry)) (now (answer .entry)) counts (now (entries .exit)) (now (boxes .exit)) (now (answer .exit)) r ⌝ }
+    ensures { λ r. ⌜ (PoolKept (now (entries .entry)) (now (boxes .entry)) counts → pooled (idOf (sub .id)) (entriesOf (now (entries .entry)) (counts .pooled)) ≡ false
+        → Leaves (now (entries .exit)) (now (boxes .exit)) r (now (answer .entry)) (now (answer .exit)) (admitSpec 500 (length (now (answer .entry)) / 4) config (tablesOf (now (entries .entry)) (now (boxes .entry)) counts) sub cost (now (inputs .entry)) (now (outputs .entry)))) ⌝ }
 {
     if fee < config.min_fee {
         return Admission {
@@ -452,9 +301,10 @@ pub fn admit(
 ) -> Admission
     requires { ⌜ Room (now entries) (now boxes) counts (countOf 5 (now inputs) + countOf 7 (now outputs)) ⌝ }
     requires { ⌜ (countOf 5 (now inputs) ≤ 5000) × (feeOf (now outputs) ≤ cap) ⌝ }
-    ensures { λ r. ⌜ Leaves (now (entries .exit)) (now (boxes .exit)) r (now (answer .entry)) (now (answer .exit)) (admitSpec 500 (length (now (answer .entry)) / 4) config (tablesOf (now (entries .entry)) (now (boxes .entry)) counts) sub cost (now (inputs .entry)) (now (outputs .entry))) ⌝ }
-    ensures { λ r. ⌜ SparesWords (conflicts (index false (boxesOf (now (boxes .entry)) (counts .records))) (idsOf 5 (now (inputs .entry)))) (now (entries .entry)) (now (boxes .entry)) (now (answer .entry)) counts (now (entries .exit)) (now (boxes .exit)) (now (answer .exit)) r ⌝ }
-    ensures { λ r. ⌜ writtenOf (processedOf (r .outcome)) ≤ length (now (answer .entry)) / 4 ⌝ }
+    ensures { λ r. ⌜ Sound (length (now (answer .entry)) / 4) (now (entries .exit)) (now (boxes .exit)) r ⌝ }
+    ensures { λ r. ⌜ SparesWords (now (entries .entry)) (now (boxes .entry)) (now (answer .entry)) counts (now (entries .exit)) (now (boxes .exit)) (now (answer .exit)) r ⌝ }
+    ensures { λ r. ⌜ (PoolKept (now (entries .entry)) (now (boxes .entry)) counts → pooled (idOf (sub .id)) (entriesOf (now (entries .entry)) (counts .pooled)) ≡ false
+        → Leaves (now (entries .exit)) (now (boxes .exit)) r (now (answer .entry)) (now (answer .exit)) (admitSpec 500 (length (now (answer .entry)) / 4) config (tablesOf (now (entries .entry)) (now (boxes .entry)) counts) sub cost (now (inputs .entry)) (now (outputs .entry)))) ⌝ }
 {
     match extract_fee(outputs) {
         FeeSum::Sum(fee) => offer(

@@ -11,14 +11,14 @@ ghost use mathlib.Core.Path.{_≡_};
 ghost use Prim.Native.Nat.{_≤_};
 ghost use Rattle.words.specs.Ids.{idOf};
 ghost use Rattle.words.specs.Wide.{wideOf};
-ghost use Rattle.entries.specs.Layout.{EntriesOk, entriesOf};
+ghost use Rattle.entries.specs.Layout.{EntriesOk, EntriesKept, entriesOf};
 ghost use Rattle.boxes.specs.Flat.{countOf, idsTo};
 ghost use Rattle.admit.specs.Admit.{weightOf, weightsOf, loses};
 
 // The weight of a transaction, 0 where it is not pooled.
 fn weight_of(entries: &[u64], pooled: usize, id: Id) -> u64
     requires { ⌜ EntriesOk (now entries) pooled ⌝ }
-    ensures { λ r. ⌜ r ≡ weightOf (idOf id) (entriesOf (now (entries .entry)) pooled) ⌝ }
+    ensures { λ r. ⌜ (EntriesKept (now (entries .entry)) pooled → r ≡ weightOf (idOf id) (entriesOf (now (entries .entry)) pooled)) ⌝ }
 {
     match find_entry(entries, pooled, id) {
         Place::At(i) => weight_at(entries, i),
@@ -30,7 +30,7 @@ fn weight_of(entries: &[u64], pooled: usize, id: Id) -> u64
 pub fn weigh(entries: &[u64], pooled: usize, list: &[u64], n: usize) -> Wide
     requires { ⌜ EntriesOk (now entries) pooled ⌝ }
     requires { ⌜ (n ≤ countOf 4 (now list)) × (n ≤ 5000) ⌝ }
-    ensures { λ r. ⌜ wideOf r ≡ weightsOf (idsTo 4 (now (list .entry)) n) (entriesOf (now (entries .entry)) pooled) ⌝ }
+    ensures { λ r. ⌜ (EntriesKept (now (entries .entry)) pooled → wideOf r ≡ weightsOf (idsTo 4 (now (list .entry)) n) (entriesOf (now (entries .entry)) pooled)) ⌝ }
 {
     let mut sum = Wide { high: 0, low: 0 };
     let mut i = 0;
@@ -45,7 +45,7 @@ pub fn weigh(entries: &[u64], pooled: usize, list: &[u64], n: usize) -> Wide
 pub fn is_loser(entries: &[u64], pooled: usize, base: u64, list: &[u64], n: usize) -> bool
     requires { ⌜ EntriesOk (now entries) pooled ⌝ }
     requires { ⌜ (n ≤ countOf 4 (now list)) × (n ≤ 5000) ⌝ }
-    ensures { λ r. ⌜ r ≡ loses base (idsTo 4 (now (list .entry)) n) (entriesOf (now (entries .entry)) pooled) ⌝ }
+    ensures { λ r. ⌜ (EntriesKept (now (entries .entry)) pooled → r ≡ loses base (idsTo 4 (now (list .entry)) n) (entriesOf (now (entries .entry)) pooled)) ⌝ }
 {
     if n == 0 {
         return false;

@@ -1,18 +1,18 @@
 // Refusal 30, and the eviction of the lowest until the capacity is met.
 use answers::write_id;
-use pool::evict_low;
+use pool::evict_lowest;
 use pool::lowest_id;
 use pool::lowest_weight;
 use pool_types::Counts;
 use words::ids::Id;
 ghost use mathlib.Core.Path.{_≡_};
 ghost use mathlib.Core.List.{_∷_, []};
-ghost use Prim.Native.Nat.{_≤_};
+ghost use Prim.Native.Nat.{_+_, _≤_};
 ghost use Rattle.words.specs.Lists.{pick};
 ghost use Rattle.words.specs.Ids.{idOf};
+ghost use Rattle.words.specs.Sums.{cap};
 ghost use Rattle.entries.specs.Layout.{EntriesOk, entriesOf};
-ghost use Rattle.boxes.specs.Clear.{Between};
-ghost use Rattle.pool.specs.Pool.{PoolFits, tablesOf};
+ghost use Rattle.pool.specs.Pool.{PoolFits, PoolKept, tablesOf};
 ghost use Rattle.answers.specs.Answers.{Wrote};
 ghost use Rattle.admit.specs.Admit.{crowded};
 ghost use Rattle.admit.specs.Evictions.{Evicts};
@@ -46,18 +46,7 @@ fn note_id(answer: &mut [u64], k: usize, id: Id, write: bool)
     }
 }
 
-// The lowest, which an eviction takes first; where there is none any id serves.
-pub fn lowest_or(entries: &[u64], counts: Counts, id: Id) -> Id
-    requires { ⌜ EntriesOk (now entries) (counts .pooled) ⌝ }
-{
-    if counts.pooled == 0 {
-        return id;
-    }
-    lowest_id(entries, counts)
-}
-
-// Takes out the lowest until at most `capacity` are left. Their ids are written from place `at` on, or not at all. It is known that `low` owns
-// none of the slots before `first`, and none from `last` on and before `rest`: as long as nothing was taken out these are not read for it.
+// Takes out the lowest until at most `capacity` are left. Their ids are written from place `at` on, or not at all.
 pub fn evict_to(
     entries: &mut [u64],
     boxes: &mut [u64],
@@ -66,27 +55,17 @@ pub fn evict_to(
     answer: &mut [u64],
     at: usize,
     write: bool,
-    low: Id,
-    first: usize,
-    last: usize,
-    rest: usize,
 ) -> Evicted
     requires { ⌜ PoolFits (now entries) (now boxes) counts ⌝ }
     requires { ⌜ at ≤ 5000 ⌝ }
-    requires { ⌜ Between (now boxes) (counts .records) (idOf low) first last rest ⌝ }
-    ensures { λ r. ⌜ Evicts capacity at write (tablesOf (now (entries .entry)) (now (boxes .entry)) counts) (now (entries .exit)) (now (boxes .exit)) r (now (answer .entry)) (now (answer .exit)) ⌝ }
+    ensures { λ r. ⌜ PoolFits (now (entries .exit)) (now (boxes .exit)) (r .counts) × (at + r .n ≤ cap) ⌝ }
+    ensures { λ r. ⌜ (PoolKept (now (entries .entry)) (now (boxes .entry)) counts → Evicts capacity at write (tablesOf (now (entries .entry)) (now (boxes .entry)) counts) (now (entries .exit)) (now (boxes .exit)) r (now (answer .entry)) (now (answer .exit))) ⌝ }
 {
     let mut left = counts;
     let mut n = 0;
-    let mut from = first;
-    let mut to = last;
-    let mut behind = rest;
     while capacity < left.pooled {
         note_id(answer, at + n, lowest_id(entries, left), write);
-        left = evict_low(entries, boxes, left, low, from, to, behind);
-        from = 0;
-        to = 0;
-        behind = 0;
+        left = evict_lowest(entries, boxes, left);
         n += 1;
     }
     Evicted { counts: left, n }

@@ -39,7 +39,7 @@ fn ancestors(entries: &mut [u64], boxes: &mut [u64]) {
 
 // Room for 601 entries and their records.
 fn main() {
-    let mut entries = [0u64; 8414];
-    let mut boxes = [0u64; 12020];
+    let mut entries = [0u64; 10820];
+    let mut boxes = [0u64; 19541];
     ancestors(&mut entries, &mut boxes);
 }

@@ -16,7 +16,7 @@ use Rattle.stats.specs.declared.FeeStats.{FeeStats}
 use Rattle.peers.specs.declared.PeerRecord.{PeerRecord}
 use Rattle.answers.specs.Answers.{Wrote, wrote-nothing}
 use Rattle.store.specs.World.{World, worldOf, unchanged}
-use Rattle.store.specs.Fits.{Fits, cacheFits, cache-holds}
+use Rattle.store.specs.Fits.{Fits, Kept, cacheFits, cache-holds}
 use Rattle.store.specs.Spares.{Spares, lent, spares-same, spares-wrote}
 use Rattle.blocks.specs.Blocks.{Progress, appliedTxs, confirmedOf, blockRefusal, BlockResult, settled, begun, applied}
 use Rattle.blocks.specs.Steps.{Doing, later-all}
@@ -34,7 +34,7 @@ resultOf e b k ys a st s time txs ins = applied st (worldOf e b k ys st) s (leng
 -- from the state st, r was handed back; the words are now those of e, b and k, the peer records are still ys, and the answer buffer's words were a₀ and
 -- are a
 pub record Post (st : Mempool) (r : Applied) (e b k : List ℕ) (ys : List PeerRecord) (a₀ a : List ℕ) (s : BlockResult) : Type 0 where
-  pub fits : Fits e b k ys (r .mempool)
+  pub kept : Kept e b k ys (r .mempool)
   pub config : r .mempool .config ≡ st .config
   pub pass : r .mempool .pass ≡ st .pass
   pub outcome : blockOf (r .outcome) ≡ s .result .outcome
@@ -44,11 +44,11 @@ pub record Post (st : Mempool) (r : Applied) (e b k : List ℕ) (ys : List PeerR
   -- each id that is written has its place
   pub placed : length (s .result .written) ≤ length a₀ / 4
 
--- what a block promises of a store that fits the state, whatever the peer records are: the words were e, b and k and are e', b' and k', the answer
+-- what a block promises of a store that start and calls left, whatever the peer records are: the words were e, b and k and are e', b' and k', the answer
 -- buffer's were a and are a', the state was st, the statistics were s and are those of r
 abbrev pub BlockPromise : List ℕ → List ℕ → List ℕ → Mempool → FeeStats → ℕ → List ℕ → List ℕ → List ℕ → List ℕ → List ℕ → List ℕ → List ℕ → Applied → Type 0
 BlockPromise e b k st s time txs ins e' b' k' a a' r =
-    (ys : List PeerRecord) → Fits e b k ys st → Post st r e' b' k' ys a a' (resultOf e b k ys a st s time txs ins)
+    (ys : List PeerRecord) → Kept e b k ys st → Post st r e' b' k' ys a a' (resultOf e b k ys a st s time txs ins)
 
 -- what was handed back, with the statistics as the caller finds them
 abbrev pub handed : Blocked → FeeStats → Applied
@@ -99,8 +99,8 @@ module _ {time : ℕ} {txs ins e b k a : List ℕ} {st : Mempool} {s : FeeStats}
     unfolding blockOf
     refused-post ys f =
         let i = p .idle h in
-        rw (stopped st (worldOf e b k ys st) s (length a / 4) time txs ins (fit-code ys f) h, i .entries, i .boxes, i .cache, i .answer)
-        (record { fits = f; config = refl; pass = refl; outcome = refl; world = refl; stats = i .stats; wrote = wrote-nothing a 0; placed = omega arith })
+        rw (stopped st (worldOf e b k ys st) s (length a / 4) time txs ins (fit-code ys (f .fits)) h, i .entries, i .boxes, i .cache, i .answer)
+        (record { kept = f; config = refl; pass = refl; outcome = refl; world = refl; stats = i .stats; wrote = wrote-nothing a 0; placed = omega arith })
 
     promised-refused : Promised time txs ins e b k a st s e' b' k' a' (record { mempool = st; outcome = NotApplied (r .code) }) x
     unfolding blockOf
@@ -121,16 +121,21 @@ module _ {time : ℕ} {txs ins e b k a : List ℕ} {st : Mempool} {s : FeeStats}
     unfolding blockOf settled
     applied-post ys f =
         let g = p .going h in
-        let c = g .come in
+        let c = g .come (f .indexed .pool) in
+        let o = g .pruned (f .indexed .cache) in
         let u : c .here ≡ appliedTxs time (confirmedOf txs ins) (begun (worldOf e b k ys st) s) = sym (later-all txs ins (r .at) (r .from) (g .ended end) time (c .here)) ∙ c .same in
         let d : Doing e' b' a a' (r .left) (appliedTxs time (confirmedOf txs ins) (begun (worldOf e b k ys st) s)) = rw u at (c .doing) in
-        rw (goes-on st (worldOf e b k ys st) s (length a / 4) time txs ins (fit-code ys f) h)
+        rw (goes-on st (worldOf e b k ys st) s (length a / 4) time txs ins (fit-code ys (f .fits)) h)
         (record {
-          fits = record { tests = record { pool = g .ready .safe .fits; cache = g .pruned .ok }; keeps = rw (room-still k k' (g .pruned .size)) (f .keeps); records = f .records; used = omega arith };
+          kept =
+              record {
+                fits = record { tests = record { pool = g .ready .safe .fits; cache = o .ok }; keeps = rw (room-still k k' (o .size)) (f .fits .keeps); records = f .fits .records; used = omega arith };
+                indexed = record { pool = d .kept; cache = o .kept };
+              };
           config = refl;
           pass = refl;
           outcome = rw (d .count);
-          world = rw (d .tables, g .pruned .rows);
+          world = rw (d .tables, o .rows);
           stats = sym (rw end at (c .stats)) ∙ ap (λ (m : Progress). m .stats) u;
           wrote = d .wrote;
           placed = omega (arith, d .count, g .sum, g .room);

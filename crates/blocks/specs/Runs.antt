@@ -15,15 +15,15 @@ use Rattle.words.specs.Ids.{idAt}
 use Rattle.pool_types.specs.declared.Mempool.{Mempool}
 use Rattle.pool_types.specs.declared.BlockOutcome.the-variants.{Removed, NotApplied}
 use Rattle.arguments.specs.Arguments.{records, field}
-use Rattle.expiring_cache.specs.Layout.{CacheOk, Pruned}
+use Rattle.expiring_cache.specs.Layout.{CacheOk, CacheKept, Pruned}
 use Rattle.stats.specs.Stats.{confirmed}
 use Rattle.stats.specs.declared.FeeStats.{FeeStats}
 use Rattle.entries.specs.Entries.{Entry, pooled, placeOf}
 use Rattle.entries.specs.Laws.{at-place, no-place, place-fits}
-use Rattle.entries.specs.Layout.{entryAt, entriesOf, entries}
+use Rattle.entries.specs.Layout.{entryAt, entriesOf, entries, EntriesKept}
 use Rattle.entries.specs.declared.table.Place.the-variants.{At, Nowhere}
 use Rattle.boxes.specs.Records.{index, lookup}
-use Rattle.pool.specs.Pool.{Tables, tablesOf, removeTx}
+use Rattle.pool.specs.Pool.{Tables, tablesOf, PoolKept, removeTx}
 use Rattle.answers.specs.Answers.{wrote-nothing}
 use Rattle.store.specs.Fits.{Testable, cache-fits}
 use Rattle.blocks.specs.Blocks.{Progress, recorded, confirmOne, driveOut, rivals, spentOne, spent, appliedTx, appliedTxs, inputsAt, confirmedOf}
@@ -126,8 +126,8 @@ pub record Went (txs ins e b a : List ℕ) (g : Run) (e' b' a' : List ℕ) (r : 
   pub ready : Ready e' b' txs ins r
   pub on : r .hit ≡ true → (g .at < r .at) × (r .at ≤ records 5 txs)
   pub ended : r .hit ≡ false → records 5 txs ≤ r .at
-  -- what was written and what is pooled are as many as before together
-  pub sum : r .left .written + r .left .counts .pooled ≡ g .left .written + g .left .counts .pooled
+  -- what was written and what is pooled are no more than before together
+  pub sum : r .left .written + r .left .counts .pooled ≤ g .left .written + g .left .counts .pooled
   pub goes : (time : ℕ) (a₀ : List ℕ) (m : Progress) → Doing e b a₀ a (g .left) m
       → Come txs ins (r .at) (r .from) time (tallied time (r .hit) (r .created) (r .base) (m .stats)) (later txs ins (g .at) (g .from) time m) e' b' a₀ a' (r .left)
 
@@ -137,16 +137,16 @@ pub record Passing (txs ins e b a : List ℕ) (g : Run) (e' b' a' : List ℕ) (r
   pub safe : Safe e' b' r
   pub agreed : Agreed txs ins i j
   pub since : g .at ≤ i
-  pub sum : r .written + r .counts .pooled ≡ g .left .written + g .left .counts .pooled
+  pub sum : r .written + r .counts .pooled ≤ g .left .written + g .left .counts .pooled
   pub goes : (time : ℕ) (a₀ : List ℕ) (m : Progress) → Doing e b a₀ a (g .left) m → Come txs ins i j time (m .stats) (later txs ins (g .at) (g .from) time m) e' b' a₀ a' r
 
 pub passing-none : {txs ins e b a : List ℕ} (g : Run) → Ready e b txs ins g → Passing txs ins e b a g e b a (g .left) (g .at) (g .from)
 passing-none g f =
-    record { safe = f .safe; agreed = f .agreed; since = omega arith; sum = refl; goes = λ time a₀ m d. record { here = m; doing = d; stats = refl; same = refl } }
+    record { safe = f .safe; agreed = f .agreed; since = omega arith; sum = omega arith; goes = λ time a₀ m d. record { here = m; doing = d; stats = refl; same = refl } }
 
 -- one transaction more, which was seen so
 module _ (txs ins : List ℕ) (i j to : ℕ) (h : i < records 5 txs) (q : to ≡ j + field 5 4 txs i) (k n : ℕ) (kq : k ≡ idAt txs (i * 5)) (nq : n ≡ field 5 4 txs i) {e b a e' b' a' e″ b″ a″ : List ℕ} {g : Run} {r r' : Removal} (v : Seen)
-    (vq : v ≡ seenOf (found (λ x. x .id) k (entriesOf e' (r .counts .pooled)))) (p : Passing txs ins e b a g e' b' a' r i j)
+    (vq : EntriesKept e' (r .counts .pooled) → v ≡ seenOf (found (λ x. x .id) k (entriesOf e' (r .counts .pooled)))) (p : Passing txs ins e b a g e' b' a' r i j)
     (d : (time : ℕ) → Does (appliedTx time k (inputsAt ins j n)) e' b' a' r e″ b″ a″ r') where
   one-come : (time : ℕ) (a₀ : List ℕ) (m : Progress) → Doing e b a₀ a (g .left) m
       → Come txs ins (i + 1) to time (tallied time (v .hit) (v .created) (v .base) (m .stats)) (later txs ins (g .at) (g .from) time m) e″ b″ a₀ a″ r'
@@ -155,7 +155,7 @@ module _ (txs ins : List ℕ) (i j to : ℕ) (h : i < records 5 txs) (q : to ≡
       record {
         here = appliedTx time k (inputsAt ins j n) (c .here);
         doing = d time .does a₀ (c .here) (c .doing);
-        stats = applied-stats time k (inputsAt ins j n) (c .here) v (vq ∙ ap (λ (t : Tables). seenOf (found (λ x. x .id) k (t .entries))) (c .doing .tables)) ∙ ap (tallied time (v .hit) (v .created) (v .base)) (c .stats);
+        stats = applied-stats time k (inputsAt ins j n) (c .here) v (vq (c .doing .kept .entries) ∙ ap (λ (t : Tables). seenOf (found (λ x. x .id) k (t .entries))) (c .doing .tables)) ∙ ap (tallied time (v .hit) (v .created) (v .base)) (c .stats);
         same = later-more txs ins i j to h q time k n kq nq (c .here) ∙ c .same;
       }
 
@@ -166,7 +166,7 @@ module _ (txs ins : List ℕ) (i j to : ℕ) (h : i < records 5 txs) (q : to ≡
         safe = safe-after (p .safe) (d 0);
         agreed = agreed-more txs ins i j to h q (p .agreed);
         since = omega (arith, p .since);
-        sum = d 0 .sum ∙ p .sum;
+        sum = omega (arith, d 0 .sum, p .sum);
         goes = λ time a₀ m f. rw z at (one-come time a₀ m f);
       }
 
@@ -180,7 +180,7 @@ module _ (txs ins : List ℕ) (i j to : ℕ) (h : i < records 5 txs) (q : to ≡
         ready = record { safe = safe-after (p .safe) (d 0); agreed = agreed-more txs ins i j to h q (p .agreed) };
         on = λ _. (omega (arith, p .since), omega arith);
         ended = λ y. let w : _≡_ {A = ℕ} 0 1 = cc in absurd (omega arith);
-        sum = d 0 .sum ∙ p .sum;
+        sum = omega (arith, d 0 .sum, p .sum);
         goes = λ time a₀ m f. rw (cq, bq) (rw z at (one-come time a₀ m f));
       }
 
@@ -212,10 +212,10 @@ begunOn e b st s = record { tables = tablesOf e b (st .counts); stats = s; remov
 pub record Going (time : ℕ) (txs ins e b k a : List ℕ) (st : Mempool) (s : FeeStats) (e' b' k' a' : List ℕ) (r : Run) (x : FeeStats) : Type 0 where
   pub ready : Ready e' b' txs ins r
   pub room : st .counts .pooled + 1 ≤ length a / 4
-  pub sum : r .left .written + r .left .counts .pooled ≡ st .counts .pooled
+  pub sum : r .left .written + r .left .counts .pooled ≤ st .counts .pooled
   pub ended : r .hit ≡ false → records 5 txs ≤ r .at
-  pub pruned : Pruned k k' (st .cached) (r .cached) (st .config .«invalidation_ttl») time
-  pub come : Come txs ins (r .at) (r .from) time (tallied time (r .hit) (r .created) (r .base) x) (appliedTxs time (confirmedOf txs ins) (begunOn e b st s)) e' b' a a' (r .left)
+  pub pruned : CacheKept k (st .cached) → Pruned k k' (st .cached) (r .cached) (st .config .«invalidation_ttl») time
+  pub come : PoolKept e b (st .counts) → Come txs ins (r .at) (r .from) time (tallied time (r .hit) (r .created) (r .base) x) (appliedTxs time (confirmedOf txs ins) (begunOn e b st s)) e' b' a a' (r .left)
 
 -- a refused one is at its end, and nothing changed
 pub record Idle (e b k a : List ℕ) (s : FeeStats) (e' b' k' a' : List ℕ) (r : Run) (x : FeeStats) : Type 0 where
@@ -272,7 +272,7 @@ module _ (txs ins e b k : List ℕ) (st : Mempool) (room : ℕ) {n : ℕ} (q : n
     unfolding fresh
     begin-ready c h = rw f (record { safe = safe-none (fitted .pool) h; agreed = agreed-none txs ins (tested .agree) })
 
-    pub run-begun : {time : ℕ} {a e' b' k' a' : List ℕ} {r : Run} {c : ℕ} → room ≡ length a / 4 → Pruned k k' (st .cached) c (st .config .«invalidation_ttl») time
+    pub run-begun : {time : ℕ} {a e' b' k' a' : List ℕ} {r : Run} {c : ℕ} → room ≡ length a / 4 → (CacheKept k (st .cached) → Pruned k k' (st .cached) c (st .config .«invalidation_ttl») time)
         → Went txs ins e b a (holding c g) e' b' a' r → (s : FeeStats) → Running time txs ins e b k a st s e' b' k' a' r s
     unfolding fresh
     run-begun {time} {a} {e'} {b'} {k'} {a'} {r} {c} l p v s =
@@ -287,15 +287,15 @@ module _ (txs ins e b k : List ℕ) (st : Mempool) (room : ℕ) {n : ℕ} (q : n
                 sum = omega (arith, w .sum);
                 ended = w .ended;
                 pruned = rw (w .cached) p;
-                come = rw (later-none txs ins time (begunOn e b st s)) at (w .goes time a (begunOn e b st s) (record { tables = refl; wrote = wrote-nothing a 0; count = refl }));
+                come = λ kept. rw (later-none txs ins time (begunOn e b st s)) at (w .goes time a (begunOn e b st s) (record { kept = kept; tables = refl; wrote = wrote-nothing a 0; count = refl }));
               };
         }
 
 module _ {time : ℕ} {txs ins e b k a : List ℕ} {st : Mempool} {s : FeeStats} {e' b' k' a' e″ b″ a″ : List ℕ} {g r : Run} {x x' : FeeStats} where
-  come-on : Going time txs ins e b k a st s e' b' k' a' g x → g .hit ≡ true → x' ≡ confirmed 60000 x time (g .created) (g .base) → Went txs ins e' b' a' g e″ b″ a″ r
+  come-on : Going time txs ins e b k a st s e' b' k' a' g x → g .hit ≡ true → x' ≡ confirmed 60000 x time (g .created) (g .base) → Went txs ins e' b' a' g e″ b″ a″ r → PoolKept e b (st .counts)
       → Come txs ins (r .at) (r .from) time (tallied time (r .hit) (r .created) (r .base) x') (appliedTxs time (confirmedOf txs ins) (begunOn e b st s)) e″ b″ a a″ (r .left)
-  come-on p z q w =
-      let c = p .come in
+  come-on p z q w kept =
+      let c = p .come kept in
       let d = w .goes time a (c .here) (c .doing) in
       let u : c .here .stats ≡ x' = rw z at (c .stats) ∙ sym q in
       record { here = d .here; doing = d .doing; stats = d .stats ∙ ap (tallied time (r .hit) (r .created) (r .base)) u; same = d .same ∙ c .same }
@@ -309,7 +309,7 @@ module _ {time : ℕ} {txs ins e b k a : List ℕ} {st : Mempool} {s : FeeStats}
         idle = λ h. let y = p .idle (λ t. h (w .code ∙ t)) .none in let o : _≡_ {A = ℕ} 0 1 = cc in absurd (omega arith);
         going = λ h.
             let f = p .going (sym (w .code) ∙ h) in
-            record { ready = w .ready; room = f .room; sum = w .sum ∙ f .sum; ended = w .ended; pruned = rw (w .cached) (f .pruned); come = come-on f z q w };
+            record { ready = w .ready; room = f .room; sum = omega (arith, w .sum, f .sum); ended = w .ended; pruned = rw (w .cached) (f .pruned); come = come-on f z q w };
       }
 
 -- something is left to be recorded only of a block that is not refused, whose tables are right

@@ -23,8 +23,9 @@ use Rattle.entries.specs.Laws.{length-without}
 use Rattle.entries.specs.Layout.{entriesOf, entries, ok-bound}
 use Rattle.boxes.specs.Records.{index, lookup, dropOwner}
 use Rattle.boxes.specs.Layout.{boxesOf}
+use Rattle.boxes.specs.Index.{BoxesKept}
 use Rattle.boxes.specs.Flat.{countOf, ids}
-use Rattle.pool.specs.Pool.{Tables, tablesOf, PoolFits, Left, removeTx}
+use Rattle.pool.specs.Pool.{Tables, tablesOf, PoolFits, PoolKept, Fewer, Left, removeTx}
 use Rattle.pool.specs.Laws.{as-many, fewer}
 use Rattle.answers.specs.Answers.{Wrote, wrote-both}
 use Rattle.blocks.specs.Blocks.{Progress, recorded, confirmOne, driveOut, rivals, spentOne, spent, appliedTx, appliedTxs, inputsAt, confirmedFrom, confirmedOf}
@@ -37,16 +38,19 @@ pub record Safe (e b : List ℕ) (g : Removal) : Type 0 where
   pub fits : PoolFits e b (g .counts)
   pub few : g .written + g .counts .pooled ≤ cap
 
--- on words e and b, with an answer buffer that was a₀ when the block began and is a, the code is where the definitions are; it keeps no statistics
+-- on words e and b whose indexes are right, with an answer buffer that was a₀ when the block began and is a, the code is where the definitions are; it
+-- keeps no statistics
 pub record Doing (e b a₀ a : List ℕ) (g : Removal) (m : Progress) : Type 0 where
+  pub kept : PoolKept e b (g .counts)
   pub tables : tablesOf e b (g .counts) ≡ m .tables
   pub wrote : Wrote a₀ a 0 (m .removed)
   pub count : g .written ≡ length (m .removed)
 
--- the code does what f does; what was written and what is pooled are as many as before together, so that the answer's room is enough
+-- the code does what f does, where the indexes are right; on any words the counts fit, and what was written and what is pooled are no more than before
+-- together, so that the answer's room is enough
 pub record Does (f : Progress → Progress) (e b a : List ℕ) (g : Removal) (e' b' a' : List ℕ) (r : Removal) : Type 0 where
   pub fits : PoolFits e' b' (r .counts)
-  pub sum : r .written + r .counts .pooled ≡ g .written + g .counts .pooled
+  pub sum : r .written + r .counts .pooled ≤ g .written + g .counts .pooled
   pub does : (a₀ : List ℕ) (m : Progress) → Doing e b a₀ a g m → Doing e' b' a₀ a' r (f m)
 
 pub safe-after : {f : Progress → Progress} {e b a e' b' a' : List ℕ} {g r : Removal} → Safe e b g → Does f e b a g e' b' a' r → Safe e' b' r
@@ -54,11 +58,11 @@ safe-after s d = record { fits = d .fits; few = omega (arith, s .few, d .sum) }
 
 -- nothing; one step after the other; another name for it
 pub does-none : {e b a : List ℕ} {g : Removal} → Safe e b g → Does (λ m. m) e b a g e b a g
-does-none s = record { fits = s .fits; sum = refl; does = λ a₀ m d. d }
+does-none s = record { fits = s .fits; sum = omega arith; does = λ a₀ m d. d }
 
 pub does-both : {f h : Progress → Progress} {e b a e' b' a' e″ b″ a″ : List ℕ} {g g' g″ : Removal}
     → Does f e b a g e' b' a' g' → Does h e' b' a' g' e″ b″ a″ g″ → Does (λ m. h (f m)) e b a g e″ b″ a″ g″
-does-both {f = f} p q = record { fits = q .fits; sum = q .sum ∙ p .sum; does = λ a₀ m d. q .does a₀ (f m) (p .does a₀ m d) }
+does-both {f = f} p q = record { fits = q .fits; sum = omega (arith, p .sum, q .sum); does = λ a₀ m d. q .does a₀ (f m) (p .does a₀ m d) }
 
 pub does-as : {f : Progress → Progress} (h : Progress → Progress) {e b a e' b' a' : List ℕ} {g r : Removal}
     → ((a₀ : List ℕ) (m : Progress) → Doing e b a₀ a g m → f m ≡ h m) → Does f e b a g e' b' a' r → Does h e b a g e' b' a' r
@@ -79,11 +83,12 @@ remove-length k t = go (pooled k (t .entries)) (length-without k (t .entries))
     go true h = h
     go false h = omega arith
 
-module _ (k : ℕ) (e b a e' b' : List ℕ) (g : Removal) (c : Counts) (l : Left e' b' c (removeTx k (tablesOf e b (g .counts)))) where
+module _ (k : ℕ) (e b a e' b' : List ℕ) (g : Removal) (c : Counts) (f : Fewer e' b' (g .counts) c)
+    (l : PoolKept e b (g .counts) → Left e' b' c (removeTx k (tablesOf e b (g .counts)))) where
   -- whether it was there shows in how many are left
-  left-count : c .pooled + pick (pooled k (entriesOf e (g .counts .pooled))) 1 0 ≡ g .counts .pooled
-  left-count =
-      let u : length (entriesOf e' (c .pooled)) ≡ length (removeTx k (tablesOf e b (g .counts)) .entries) = ap (λ (t : Tables). length (t .entries)) (l .tables) in
+  left-count : PoolKept e b (g .counts) → c .pooled + pick (pooled k (entriesOf e (g .counts .pooled))) 1 0 ≡ g .counts .pooled
+  left-count kept =
+      let u : length (entriesOf e' (c .pooled)) ≡ length (removeTx k (tablesOf e b (g .counts)) .entries) = ap (λ (t : Tables). length (t .entries)) (l kept .tables) in
       omega (arith, u, remove-length k (tablesOf e b (g .counts)), entries .len e' (c .pooled), entries .len e (g .counts .pooled))
 
   -- as many as before: it was not pooled
@@ -91,19 +96,18 @@ module _ (k : ℕ) (e b a e' b' : List ℕ) (g : Removal) (c : Counts) (l : Left
   unfolding driveOut
   does-nothing h =
       record {
-        fits = l .fits;
+        fits = f .fits;
         sum = omega arith;
         does = λ a₀ m d.
-            let q : pooled k (entriesOf e (g .counts .pooled)) ≡ false = as-many _ (c .pooled) (g .counts .pooled) left-count h in
+            let q : pooled k (entriesOf e (g .counts .pooled)) ≡ false = as-many _ (c .pooled) (g .counts .pooled) (left-count (d .kept)) h in
             let z : pooled k (m .tables .entries) ≡ false = same-pooled k (d .tables) q in
-            rw z (record { tables = l .tables ∙ rw q (d .tables); wrote = d .wrote; count = d .count });
+            let o = l (d .kept) in
+            rw z (record { kept = o .kept; tables = o .tables ∙ rw q (d .tables); wrote = d .wrote; count = d .count });
       }
 
-  -- one fewer: there is a number for one more
+  -- fewer: there is a number for one more
   pub one-more : Safe e b g → (c .pooled ≡ g .counts .pooled → ⊥) → g .written + 1 ≤ cap
-  one-more s h =
-      let p : pooled k (entriesOf e (g .counts .pooled)) ≡ true = fewer (pooled k (entriesOf e (g .counts .pooled))) (c .pooled) (g .counts .pooled) left-count h in
-      omega (arith, rw p at left-count, s .few)
+  one-more s h = omega (arith, h, f .entries, s .few)
 
   -- .. it was, and it is written behind the others
   pub does-leave : (a' : List ℕ) (n r : ℕ) → (c .pooled ≡ g .counts .pooled → ⊥) → n ≡ g .written → r ≡ g .written + 1 → Wrote a a' n (k ∷ [])
@@ -111,19 +115,19 @@ module _ (k : ℕ) (e b a e' b' : List ℕ) (g : Removal) (c : Counts) (l : Left
   unfolding driveOut
   does-leave a' n r h u v w =
       record {
-        fits = l .fits;
-        sum = omega (arith, rw p at left-count);
+        fits = f .fits;
+        sum = omega (arith, h, f .entries);
         does = λ a₀ m d.
+            let p : pooled k (entriesOf e (g .counts .pooled)) ≡ true = fewer (pooled k (entriesOf e (g .counts .pooled))) (c .pooled) (g .counts .pooled) (left-count (d .kept)) h in
             let z : pooled k (m .tables .entries) ≡ true = same-pooled k (d .tables) p in
+            let o = l (d .kept) in
             rw z (record {
-              tables = l .tables ∙ ap (removeTx k) (d .tables) ∙ rw z;
+              kept = o .kept;
+              tables = o .tables ∙ ap (removeTx k) (d .tables) ∙ rw z;
               wrote = wrote-both a₀ a a' 0 (g .written) (m .removed) (k ∷ []) (d .count) (d .wrote) (rw (zero-add (g .written), ← u) w);
               count = v ∙ rw (length-append (m .removed) (k ∷ []), d .count);
             });
       }
-    where
-      p : pooled k (entriesOf e (g .counts .pooled)) ≡ true
-      p = fewer (pooled k (entriesOf e (g .counts .pooled))) (c .pooled) (g .counts .pooled) left-count h
 
 -- ---- it is confirmed: it leaves as one that is driven out, and the statistics are another's matter
 
@@ -148,21 +152,25 @@ does-confirm time k h =
       does = λ a₀ m d.
           let i = h .does a₀ m d in
           let q = like-drive time k m in
-          record { tables = i .tables ∙ q .0; wrote = rw (q .1) at (i .wrote); count = i .count ∙ ap length (q .1) };
+          record { kept = i .kept; tables = i .tables ∙ q .0; wrote = rw (q .1) at (i .wrote); count = i .count ∙ ap length (q .1) };
     }
 
 -- ---- one input: what the index names
 
 module _ (k key : ℕ) (e b a : List ℕ) (g : Removal) where
-  -- .. is what the definitions look up
-  named : (ks : List ℕ) → ks ≡ lookup (index false (boxesOf b (g .counts .records))) key → (a₀ : List ℕ) (m : Progress) → Doing e b a₀ a g m → rivals k ks m ≡ spentOne k key m
-  named ks q a₀ m d = ap (λ (x : List ℕ). rivals k x m) (q ∙ ap (λ (t : Tables). lookup (index false (t .boxes)) key) (d .tables))
+  -- .. where the indexes are right
+  abbrev Names : List ℕ → Type 0
+  Names ks = BoxesKept b (g .counts .records) → ks ≡ lookup (index false (boxesOf b (g .counts .records))) key
 
-  pub does-nobody : [] ≡ lookup (index false (boxesOf b (g .counts .records))) key → Safe e b g → Does (spentOne k key) e b a g e b a g
+  -- .. is what the definitions look up
+  named : (ks : List ℕ) → Names ks → (a₀ : List ℕ) (m : Progress) → Doing e b a₀ a g m → rivals k ks m ≡ spentOne k key m
+  named ks q a₀ m d = ap (λ (x : List ℕ). rivals k x m) (q (d .kept .boxes) ∙ ap (λ (t : Tables). lookup (index false (t .boxes)) key) (d .tables))
+
+  pub does-nobody : Names [] → Safe e b g → Does (spentOne k key) e b a g e b a g
   unfolding rivals
   does-nobody q s = does-as (spentOne k key) (λ a₀ m d. named [] q a₀ m d) (does-none s)
 
-  module _ (x : ℕ) (q : x ∷ [] ≡ lookup (index false (boxesOf b (g .counts .records))) key) where
+  module _ (x : ℕ) (q : Names (x ∷ [])) where
     pub does-itself : Safe e b g → eqb x k ≡ true → Does (spentOne k key) e b a g e b a g
     unfolding rivals
     does-itself s z = does-as (spentOne k key) (λ a₀ m d. sym (yes (eqb x k) m (driveOut x m) z) ∙ named (x ∷ []) q a₀ m d) (does-none s)
@@ -180,18 +188,18 @@ pub record Reached (F : Progress → Progress) (x : Progress) (e b a₀ a : List
 
 pub record Turned (F G : Progress → Progress) (e b a : List ℕ) (g : Removal) (e' b' a' : List ℕ) (r : Removal) : Type 0 where
   pub safe : Safe e' b' r
-  pub sum : r .written + r .counts .pooled ≡ g .written + g .counts .pooled
+  pub sum : r .written + r .counts .pooled ≤ g .written + g .counts .pooled
   pub reached : (a₀ : List ℕ) (m : Progress) → Doing e b a₀ a g m → Reached F (G m) e' b' a₀ a' r
 
 pub turn-none : {F G : Progress → Progress} {e b a : List ℕ} {g : Removal} → Safe e b g → ((m : Progress) → F m ≡ G m) → Turned F G e b a g e b a g
-turn-none s q = record { safe = s; sum = refl; reached = λ a₀ m d. record { here = m; doing = d; same = q m } }
+turn-none s q = record { safe = s; sum = omega arith; reached = λ a₀ m d. record { here = m; doing = d; same = q m } }
 
 pub turn-more : (H : Progress → Progress) {F G f : Progress → Progress} {e b a e' b' a' e″ b″ a″ : List ℕ} {g g' g″ : Removal}
     → Turned F G e b a g e' b' a' g' → Does f e' b' a' g' e″ b″ a″ g″ → ((m : Progress) → H (f m) ≡ F m) → Turned H G e b a g e″ b″ a″ g″
 turn-more H {f = f} t d q =
     record {
       safe = safe-after (t .safe) d;
-      sum = d .sum ∙ t .sum;
+      sum = omega (arith, d .sum, t .sum);
       reached = λ a₀ m i.
           let x = t .reached a₀ m i in
           record { here = f (x .here); doing = d .does a₀ (x .here) (x .doing); same = q (x .here) ∙ x .same };

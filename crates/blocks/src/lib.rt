@@ -34,7 +34,7 @@ ghost use Rattle.words.specs.Find.{found};
 ghost use Rattle.pool_types.specs.Outcomes.{blockOf, refused, wrote};
 ghost use Rattle.stats.specs.declared.FeeStats.{FeeStats};
 ghost use Rattle.peers.specs.declared.PeerRecord.{PeerRecord};
-ghost use Rattle.entries.specs.Layout.{EntriesOk, entriesOf};
+ghost use Rattle.entries.specs.Layout.{EntriesOk, EntriesKept, entriesOf};
 ghost use Rattle.boxes.specs.Flat.{countOf};
 ghost use Rattle.store.specs.Fits.{cacheFits};
 ghost use Rattle.store.specs.Spares.{Spares, lent};
@@ -115,7 +115,7 @@ fn take_out(
 // What the statistics are to know of a transaction.
 fn look(entries: &[u64], pooled: usize, id: Id) -> Seen
     requires { ⌜ EntriesOk (now entries) pooled ⌝ }
-    ensures { λ r. ⌜ r ≡ seenOf (found (λ x. x .id) (idOf id) (entriesOf (now (entries .entry)) pooled)) ⌝ }
+    ensures { λ r. ⌜ (EntriesKept (now (entries .entry)) pooled → r ≡ seenOf (found (λ x. x .id) (idOf id) (entriesOf (now (entries .entry)) pooled))) ⌝ }
 {
     match find_entry(entries, pooled, id) {
         Place::At(i) => Seen {

@@ -1,5 +1,5 @@
--- What entering a transaction does to the records, in one step: the older records are hidden in place, and the new ones stand behind them.
--- This is how the code does it (`entered`); `Records` says it record by record.
+-- What entering a transaction does to the records, in one step: the older records are hidden in place, and the new ones stand behind them
+-- (`entered`). `Records` says it record by record, as the code does it.
 use Prim.Native.Nat.{ℕ, _+_}
 use mathlib.Core.Path.{_≡_, refl, sym, ap, _∙_}
 use mathlib.Core.Bool.{Bool, true, false, not, _&&_, _||_, and-true}
@@ -20,10 +20,6 @@ overtakenBy ins outs r = r .live && among (r .box) (pick (r .out) outs ins)
 
 abbrev pub hideTx : List ℕ → List ℕ → BoxRec → BoxRec
 hideTx ins outs r = record { box = r .box; owner = r .owner; out = r .out; live = r .live && not (among (r .box) (pick (r .out) outs ins)) }
-
--- one that is no more live
-abbrev pub hidden : BoxRec → BoxRec
-hidden r = record { box = r .box; owner = r .owner; out = r .out; live = false }
 
 -- the new records: of a box that the list repeats the last one is live
 abbrev pub newBox : Bool → ℕ → ℕ → List ℕ → BoxRec
@@ -115,17 +111,8 @@ module _ (ins outs : List ℕ) (r : BoxRec) where
   unfolding overtakenBy
   overtaken-not l = rw l
 
--- a record as the code leaves it: hidden, or as it was
+-- a record that is not overtaken is as it was
 module _ (ins outs : List ℕ) (r : BoxRec) where
-  pub hide-yes : overtakenBy ins outs r ≡ true → hideTx ins outs r ≡ hidden r
-  unfolding marked overtakenBy
-  hide-yes e = λ t. marked r (go (r .live) (among (r .box) (pick (r .out) outs ins)) e t)
-    where
-      go : (l a : Bool) → (l && a) ≡ true → (l && not a) ≡ false
-      go true true q = refl
-      go true false q = sym q
-      go false a q = refl
-
   pub hide-no : overtakenBy ins outs r ≡ false → hideTx ins outs r ≡ r
   unfolding marked overtakenBy
   hide-no e = λ t. marked r (go (r .live) (among (r .box) (pick (r .out) outs ins)) e t)

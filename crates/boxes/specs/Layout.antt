@@ -1,86 +1,71 @@
 -- The table of box records in words: the slots (`slotsOf`), what they read as (`rowsOf`), the records (`boxesOf`), how many there is room for
--- (`boxesRoom`, `BoxesOk`), and the laws of all. Words outside the first n slots are free, and so are vacated slots. Nothing outside of
--- this crate unfolds a definition of this file.
-use Prim.Native.Nat.{ℕ, _+_, _-_, _*_, _/_, _≤_, _<_}
-use mathlib.Core.Path.{_≡_, sym, ap, _∙_}
-use mathlib.Core.Bool.{Bool, true, false, not, _&&_}
-use mathlib.Core.List.{List, [], _∷_, _++_, append-nil}
-use native.Mathlib.Nat.{add-zero}
+-- (`boxesRoom`, `BoxesOk`), and the laws of all. Slot i has thirteen words, from index 13 * i on: the box's id, the owner's id, the kind, the slot's
+-- link in the index of boxes and in that of owners, and the heads of bucket i in both. Behind the slots stand how many of them are used, and the key
+-- of the buckets. Nothing outside of this crate unfolds a definition of this file.
+use Prim.Native.Nat.{ℕ, zero, suc, _+_, _-_, _*_, _/_, _≤_, _<_, min, max}
+use mathlib.Core.Path.{_≡_, refl, sym, ap, _∙_}
+use mathlib.Core.Bool.{Bool, true, false, not, _&&_, and-true, and-false}
+use mathlib.Core.List.{List, [], _∷_, _++_, map}
+use native.Mathlib.Decide.{ℕ-discrete}
 use native.Mathlib.Omega.{arith}
-use lib.ListN.{length, getD, drop, set, length-append}
+use lib.ListN.{length, getD}
 use lib.Dec.{eqb, ltb}
-use borrow.Author.Tests.{eqb-true, lt-ltb}
-use Rattle.words.specs.Lists.{pick, keep}
+use borrow.Author.Tests.{eqb-true, eq-eqb, ne-eqb, le-ltb, not-true, not-false}
+use Rattle.words.specs.Lists.{pick}
 use Rattle.words.specs.Rows.{tab, length-tab, getD-tab, take-tab, tab-ext, map-tab}
 use Rattle.words.specs.Tables.{Table, of-none, of-suc}
-use Rattle.words.specs.Ids.{num, idOf, idAt, Words}
-use Rattle.words.specs.declared.ids.Id.{Id}
-use Rattle.boxes.specs.Records.{BoxRec, index, inputsOf, dropOwner}
+use Rattle.words.specs.Ids.{idAt}
+use Rattle.boxes.specs.Records.{BoxRec, same, hide, index, isInput, inputsOf, dropOwner}
+use Rattle.boxes.specs.Lookup.{isEntry}
 use Rattle.boxes.specs.Each.{Each}
-use Rattle.boxes.specs.Slots.{Slot, Inert, tidy, vacated, leave, stays, index-tidy, inputs-tidy, each-tidy, tidy-append, tidy-leave, tidy-keep, length-keep, length-tidy}
-use Rattle.boxes.specs.Among.{among}
-use Rattle.boxes.specs.Entering.{newBox}
-use Rattle.boxes.specs.Flat.{countOf, idsTo, idsOf}
-use Rattle.boxes.specs.declared.rows.BoxRow.{BoxRow}
+use Rattle.boxes.specs.Slots.{Slot, Inert, tidy, leave, index-tidy, inputs-tidy, each-tidy, hideSlot, tidy-append, tidy-leave, tidy-hide, tidy-fewer, length-tidy}
 
 -- a flag is set where its word is not 0
 abbrev pub isSet : ℕ → Bool
 isSet w = not (eqb w 0)
 
--- a record of the code
-unfoldable pub boxOf : BoxRow → BoxRec
-boxOf r = record { box = idOf (r .key); owner = idOf (r .owner); out = r .out; live = r .live }
-
--- the record that the code writes for box i of a list
-pub new-row : (key k : Id) (o t : Bool) (W : ℕ) (l : List ℕ) (i : ℕ) {n : ℕ} → idOf key ≡ idAt l (i * W) → n ≡ countOf W l → t ≡ among (idOf key) (drop (i + 1) (idsTo W l n))
-    → boxOf (record { key = key; owner = k; out = o; live = not t }) ≡ newBox o (idOf k) (idAt l (i * W)) (drop (i + 1) (idsOf W l))
-unfolding boxOf
-new-row key k o t W l i e f h = rw (h, f, e)
-
 -- ---- room
 
--- how many records the words have room for: R of document 01
+-- how many slots there are, and how many buckets
+abbrev pub boxSlots : List ℕ → ℕ
+boxSlots l = (length l - 2) / 13
+
+-- how many records: document 01's R. The rest is slack.
 unfoldable pub boxesRoom : List ℕ → ℕ
-boxesRoom l = length l / 10
+boxesRoom l = boxSlots l * 4 / 5
 
 unfoldable pub BoxesOk : List ℕ → ℕ → Type 0
 BoxesOk l n = n ≤ boxesRoom l
 
--- ---- ten words. Eight stand at the front, those of slot i from 8 * i on: the first three words of the box's id, the first three of its owner's, the
--- kind and a flag for a live record. The last words of both ids stand at the back, those of slot 0 last, so that a search goes through few words.
--- The kind is 0 for an input, 2 for a vacated slot, and another number for an output.
+-- ---- the words of a slot
 
-abbrev pub slotOf : ℕ → ℕ → ℕ → ℕ → Slot
-slotOf key owner kind live = record { row = record { box = key; owner = owner; out = isSet kind; live = not (eqb kind 2) && isSet live }; gone = eqb kind 2 }
+-- the id in column c of slot i: 0 the box's, 1 the owner's
+unfoldable pub keyAt : List ℕ → ℕ → ℕ → ℕ
+keyAt l c i = idAt l (i * 13 + c * 4)
 
--- f gives the eight words, d and e are the last words of both ids
-abbrev pub slotBy : (ℕ → ℕ) → ℕ → ℕ → Slot
-slotBy f d e = slotOf (num (f 0) (f 1) (f 2) d) (num (f 3) (f 4) (f 5) e) (f 6) (f 7)
+unfoldable pub kindAt : List ℕ → ℕ → ℕ
+kindAt l i = getD l (i * 13 + 8) 0
 
--- where there is no slot
-abbrev pub nothing : Slot
-nothing = slotOf 0 0 2 0
+-- the kind: 0 a live input, 1 a live output, 2 a vacated slot, 3 a hidden input, and another number a hidden output
+abbrev pub outKind : ℕ → Bool
+outKind q = pick (eqb q 0) false (not (eqb q 3))
 
-abbrev pub front : List ℕ → ℕ → ℕ → ℕ
-front l i c = getD l (i * 8 + c) 0
+abbrev pub slotOf : ℕ → ℕ → ℕ → Slot
+slotOf key owner q = record { row = record { box = key; owner = owner; out = outKind q; live = ltb q 2 }; gone = eqb q 2 }
 
--- the slot at index i, and the first n
+-- the slot at index i, and the first k
 unfoldable pub slotAt : List ℕ → ℕ → Slot
-slotAt l i = pick (ltb i (boxesRoom l)) (slotBy (front l i) (getD l (length l - (i * 2 + 2)) 0) (getD l (length l - (i * 2 + 1)) 0)) nothing
+slotAt l i = slotOf (keyAt l 0 i) (keyAt l 1 i) (kindAt l i)
 
 unfoldable pub slotsOf : List ℕ → ℕ → List Slot
-slotsOf l n = tab (slotAt l) n
+slotsOf l k = tab (slotAt l) k
 
--- what the slot at index i reads as, and the first n
+-- what the slot at index i reads as, and the first k
 unfoldable pub boxAt : List ℕ → ℕ → BoxRec
 boxAt l i = slotAt l i .row
 
 unfoldable pub rowsOf : List ℕ → ℕ → List BoxRec
-rowsOf l n = tab (boxAt l) n
-
--- the records in the first n slots
-unfoldable pub boxesOf : List ℕ → ℕ → List BoxRec
-boxesOf l n = tidy (slotsOf l n)
+rowsOf l k = tab (boxAt l) k
 
 -- the three laws of a table (`Tables`)
 pub slots : Table slotsOf slotAt
@@ -91,64 +76,120 @@ pub rows : Table rowsOf boxAt
 unfolding rowsOf
 rows = record { len = λ l n. length-tab (boxAt l) n; get = λ l n i d h. getD-tab (boxAt l) n i d h; first = λ l k n h. take-tab (boxAt l) k n h }
 
+-- ---- the words behind the slots
+
+unfoldable pub usedWord : List ℕ → ℕ
+usedWord l = getD l (boxSlots l * 13) 0
+
+unfoldable pub keyWord : List ℕ → ℕ
+keyWord l = getD l (boxSlots l * 13 + 1) 0
+
+-- how many slots n records use: the word is not believed where there are none, and taken for a number of slots that they may use
+unfoldable pub slotsUsed : List ℕ → ℕ → ℕ
+slotsUsed l n = pick (eqb n 0) 0 (max n (min (usedWord l) (boxSlots l)))
+
+-- ---- the records
+
+-- those in the first k slots
+unfoldable pub recordsIn : List ℕ → ℕ → List BoxRec
+recordsIn l k = tidy (slotsOf l k)
+
+-- what all used slots read as, and the records in them
+unfoldable pub allRows : List ℕ → ℕ → List BoxRec
+allRows l n = rowsOf l (slotsUsed l n)
+
+unfoldable pub boxesOf : List ℕ → ℕ → List BoxRec
+boxesOf l n = recordsIn l (slotsUsed l n)
+
 -- ---- what is read of the slots is read of the records
 
-inert-of : (key owner kind live : ℕ) → Inert (slotOf key owner kind live)
-inert-of key owner kind live = record { live = λ e. rw e; out = λ e. ap isSet (eqb-true kind 2 e) }
-
-inert-by : (f : ℕ → ℕ) (d e : ℕ) → Inert (slotBy f d e)
-inert-by f d e = inert-of (num (f 0) (f 1) (f 2) d) (num (f 3) (f 4) (f 5) e) (f 6) (f 7)
+inert-of : (key owner q : ℕ) → Inert (slotOf key owner q)
+inert-of key owner q = record { live = λ e. ap (λ (x : ℕ). ltb x 2) (eqb-true q 2 e); out = λ e. ap outKind (eqb-true q 2 e) }
 
 inert : (l : List ℕ) (i : ℕ) → Inert (slotAt l i)
 unfolding slotAt
-inert l i = go (ltb i (boxesRoom l))
+inert l i = inert-of (keyAt l 0 i) (keyAt l 1 i) (kindAt l i)
+
+pub index-rows : (o : Bool) (l : List ℕ) (n : ℕ) → index o (allRows l n) ≡ index o (boxesOf l n)
+unfolding allRows rowsOf boxesOf recordsIn slotsOf boxAt
+index-rows o l n = index-tidy o (slotAt l) (inert l) (slotsUsed l n)
+
+pub inputs-rows : (k : ℕ) (l : List ℕ) (n : ℕ) → inputsOf k (allRows l n) ≡ inputsOf k (boxesOf l n)
+unfolding allRows rowsOf boxesOf recordsIn slotsOf boxAt
+inputs-rows k l n = inputs-tidy k (slotAt l) (inert l) (slotsUsed l n)
+
+pub boxes-each : (P : BoxRec → Type 0) (l : List ℕ) (n : ℕ) → ((j : ℕ) → j < slotsUsed l n → P (boxAt l j)) → Each P (boxesOf l n)
+unfolding boxesOf recordsIn slotsOf boxAt
+boxes-each P l n h = each-tidy P (slotAt l) (slotsUsed l n) h
+
+pub records-none : (l : List ℕ) → recordsIn l 0 ≡ []
+unfolding recordsIn
+records-none l = ap tidy (of-none slots l)
+
+-- one slot more holds a record or none
+pub records-more : (l : List ℕ) (i : ℕ) → recordsIn l (i + 1) ≡ recordsIn l i ++ pick (slotAt l i .gone) [] (boxAt l i ∷ [])
+unfolding recordsIn boxAt
+records-more l i = ap tidy (of-suc slots l i) ∙ tidy-append (slotsOf l i) (slotAt l i ∷ [])
+
+-- slots that read the same hold the same records
+pub records-ext : (l m : List ℕ) (k : ℕ) → ((i : ℕ) → i < k → slotAt m i ≡ slotAt l i) → recordsIn m k ≡ recordsIn l k
+unfolding recordsIn slotsOf
+records-ext l m k h = ap tidy (tab-ext (slotAt m) (slotAt l) k h)
+
+-- how many there are
+pub records-few : (l : List ℕ) (k : ℕ) → length (recordsIn l k) ≤ k
+unfolding recordsIn
+records-few l k = omega (arith, length-tidy (slotsOf l k), slots .len l k)
+
+-- every slot was left by transaction k: so were the records
+pub records-leave : (l m : List ℕ) (k n : ℕ) → ((j : ℕ) → j < n → slotAt m j ≡ leave k (slotAt l j)) → recordsIn m n ≡ dropOwner k (recordsIn l n)
+unfolding recordsIn slotsOf
+records-leave l m k n h = ap tidy (tab-ext (slotAt m) (λ j. leave k (slotAt l j)) n h ∙ sym (map-tab (leave k) (slotAt l) n)) ∙ tidy-leave k (tab (slotAt l) n)
+
+-- in every slot what is older was hidden
+pub records-hide : (l m : List ℕ) (o : Bool) (b n : ℕ) → ((j : ℕ) → j < n → slotAt m j ≡ hideSlot o b (slotAt l j)) → recordsIn m n ≡ map (hide o b) (recordsIn l n)
+unfolding recordsIn slotsOf
+records-hide l m o b n h = ap tidy (tab-ext (slotAt m) (λ j. hideSlot o b (slotAt l j)) n h ∙ sym (map-tab (hideSlot o b) (slotAt l) n)) ∙ tidy-hide o b (tab (slotAt l) n)
+
+-- one slot was vacated
+pub records-fewer : (l m : List ℕ) (n i : ℕ) → i < n → slotAt l i .gone ≡ false → slotAt m i .gone ≡ true → ((j : ℕ) → (j ≡ i → ⊥) → slotAt m j ≡ slotAt l j) → suc (length (recordsIn m n)) ≡ length (recordsIn l n)
+unfolding recordsIn slotsOf
+records-fewer l m n i b p q h = tidy-fewer (slotAt l) (slotAt m) n i b p q h
+
+-- ---- used slots
+
+pub used-none : (l : List ℕ) → slotsUsed l 0 ≡ 0
+unfolding slotsUsed
+used-none l = refl
+
+pub used-some : (l : List ℕ) (n : ℕ) → 0 < n → slotsUsed l n ≡ max n (min (usedWord l) (boxSlots l))
+unfolding slotsUsed
+used-some l n h = rw (ne-eqb n 0 (λ e. omega (arith, e)))
+
+pub slots-low : (l : List ℕ) (n : ℕ) → BoxesOk l n → slotsUsed l n ≤ boxSlots l
+unfolding BoxesOk boxesRoom
+slots-low l n h = go (ℕ-discrete n 0)
   where
-    go : (t : Bool) → Inert (pick t (slotBy (front l i) (getD l (length l - (i * 2 + 2)) 0) (getD l (length l - (i * 2 + 1)) 0)) nothing)
-    go true = inert-by (front l i) (getD l (length l - (i * 2 + 2)) 0) (getD l (length l - (i * 2 + 1)) 0)
-    go false = inert-of 0 0 2 0
+    go : Dec (n ≡ 0) → slotsUsed l n ≤ boxSlots l
+    go (yes e) = rw e (omega (arith, used-none l))
+    go (no e) = omega (arith, used-some l n (omega (arith, e)))
 
-pub index-rows : (o : Bool) (l : List ℕ) (n : ℕ) → index o (rowsOf l n) ≡ index o (boxesOf l n)
-unfolding rowsOf boxesOf slotsOf boxAt
-index-rows o l n = index-tidy o (slotAt l) (inert l) n
+-- slots are no more than words
+pub rows-bound : (l : List ℕ) (n : ℕ) → BoxesOk l n → length (allRows l n) ≤ length l
+unfolding allRows
+rows-bound l n h = omega (arith, rows .len l (slotsUsed l n), slots-low l n h)
 
-pub inputs-rows : (k : ℕ) (l : List ℕ) (n : ℕ) → inputsOf k (rowsOf l n) ≡ inputsOf k (boxesOf l n)
-unfolding rowsOf boxesOf slotsOf boxAt
-inputs-rows k l n = inputs-tidy k (slotAt l) (inert l) n
-
-pub boxes-each : (P : BoxRec → Type 0) (l : List ℕ) (n : ℕ) → ((j : ℕ) → j < n → P (boxAt l j)) → Each P (boxesOf l n)
-unfolding boxesOf slotsOf boxAt
-boxes-each P l n h = each-tidy P (slotAt l) n h
+-- as many slots are used as there are records, or more
+pub slots-high : (l : List ℕ) (n : ℕ) → n ≤ slotsUsed l n
+slots-high l n = go (ℕ-discrete n 0)
+  where
+    go : Dec (n ≡ 0) → n ≤ slotsUsed l n
+    go (yes e) = omega arith
+    go (no e) = omega (arith, used-some l n (omega (arith, e)))
 
 pub no-boxes : (l : List ℕ) → boxesOf l 0 ≡ []
 unfolding boxesOf
-no-boxes l = ap tidy (of-none slots l)
-
--- one slot more holds a record or none
-boxes-more : (l : List ℕ) (i : ℕ) → boxesOf l (i + 1) ≡ boxesOf l i ++ pick (slotAt l i .gone) [] (boxAt l i ∷ [])
-unfolding boxesOf boxAt
-boxes-more l i = ap tidy (of-suc slots l i) ∙ tidy-append (slotsOf l i) (slotAt l i ∷ [])
-
-module _ (l : List ℕ) (i n : ℕ) (e : n ≡ length (boxesOf l i)) where
-  pub counted-gone : slotAt l i .gone ≡ true → n ≡ length (boxesOf l (i + 1))
-  counted-gone t = e ∙ ap length (sym (append-nil (boxesOf l i)) ∙ ap (λ (x : Bool). boxesOf l i ++ pick x [] (boxAt l i ∷ [])) (sym t) ∙ sym (boxes-more l i))
-
-  pub counted-stays : slotAt l i .gone ≡ false → n + 1 ≡ length (boxesOf l (i + 1))
-  counted-stays t = ap (λ (x : ℕ). x + 1) e ∙ sym (length-append (boxesOf l i) (boxAt l i ∷ [])) ∙ ap length (ap (λ (x : Bool). boxesOf l i ++ pick x [] (boxAt l i ∷ [])) (sym t) ∙ sym (boxes-more l i))
-
--- the slots that were not vacated were moved together
-pub moved-together : (l m : List ℕ) (n w : ℕ) → slotsOf m w ≡ keep stays (slotsOf l n) → (w ≡ length (boxesOf l n)) × (boxesOf m w ≡ boxesOf l n)
-unfolding boxesOf
-moved-together l m n w e = (sym (slots .len m w) ∙ ap length e ∙ length-keep (slotsOf l n), ap tidy e ∙ tidy-keep (slotsOf l n))
-
--- records are no more than slots
-pub boxes-few : (l : List ℕ) (n : ℕ) → length (boxesOf l n) ≤ n
-unfolding boxesOf
-boxes-few l n = omega (arith, length-tidy (slotsOf l n), slots .len l n)
-
--- every slot was left by transaction k: so were the records
-pub slots-leave : (l m : List ℕ) (k n : ℕ) → ((j : ℕ) → j < n → slotAt m j ≡ leave k (slotAt l j)) → boxesOf m n ≡ dropOwner k (boxesOf l n)
-unfolding boxesOf slotsOf
-slots-leave l m k n h = ap tidy (tab-ext (slotAt m) (λ j. leave k (slotAt l j)) n h ∙ sym (map-tab (leave k) (slotAt l) n)) ∙ tidy-leave k (tab (slotAt l) n)
+no-boxes l = ap (recordsIn l) (used-none l) ∙ records-none l
 
 -- ---- room
 
@@ -174,39 +215,80 @@ pub room-still : (l m : List ℕ) → length m ≡ length l → boxesRoom m ≡ 
 unfolding boxesRoom
 room-still l m e = rw e
 
--- a count of records is an index
+-- a count of records is an index, and there is a slot for each
 pub ok-bound : (l : List ℕ) (n : ℕ) → BoxesOk l n → n ≤ length l
 unfolding BoxesOk boxesRoom
 ok-bound l n h = omega arith
 
+pub ok-slots : (l : List ℕ) (n : ℕ) → BoxesOk l n → n ≤ boxSlots l
+unfolding BoxesOk boxesRoom
+ok-slots l n h = omega arith
+
+pub room-slots : (l : List ℕ) → boxesRoom l ≤ boxSlots l
+unfolding boxesRoom
+room-slots l = omega arith
+
 -- ---- what the code reads
 
-module _ (l : List ℕ) (i : ℕ) (h : BoxesOk l (i + 1)) where
-  pub here : slotAt l i ≡ slotBy (front l i) (getD l (length l - (i * 2 + 2)) 0) (getD l (length l - (i * 2 + 1)) 0)
-  unfolding slotAt BoxesOk
-  here = let b : i < boxesRoom l = omega arith in rw (lt-ltb i (boxesRoom l) b)
+-- the used slots, as the code clamps the word
+module _ (l : List ℕ) (n w : ℕ) (e : w ≡ usedWord l) (p : n ≡ 0 → ⊥) where
+  pub used-few : w < n → n ≡ slotsUsed l n
+  used-few h = omega (arith, used-some l n (omega (arith, p)))
 
-  pub key-at : num (getD l (i * 8) 0) (getD l (i * 8 + 1) 0) (getD l (i * 8 + 2) 0) (getD l (length l - (i * 2 + 2)) 0) ≡ boxAt l i .box
-  unfolding boxAt
-  key-at = ap (λ (p : ℕ). num (getD l p 0) (front l i 1) (front l i 2) (getD l (length l - (i * 2 + 2)) 0)) (sym (add-zero (i * 8))) ∙ sym (ap (λ (s : Slot). s .row .box) here)
+  pub used-many : n ≤ boxSlots l → n ≤ w → boxSlots l < w → boxSlots l ≡ slotsUsed l n
+  used-many b h g = omega (arith, used-some l n (omega (arith, p)))
 
-  pub owner-at : num (getD l (i * 8 + 3) 0) (getD l (i * 8 + 4) 0) (getD l (i * 8 + 5) 0) (getD l (length l - (i * 2 + 1)) 0) ≡ boxAt l i .owner
-  unfolding boxAt
-  owner-at = sym (ap (λ (s : Slot). s .row .owner) here)
+  pub used-word : n ≤ w → w ≤ boxSlots l → w ≡ slotsUsed l n
+  used-word h g = omega (arith, used-some l n (omega (arith, p)))
 
-  pub out-at : isSet (getD l (i * 8 + 6) 0) ≡ boxAt l i .out
-  unfolding boxAt
-  out-at = sym (ap (λ (s : Slot). s .row .out) here)
+pub box-is : (l : List ℕ) (i : ℕ) → keyAt l 0 i ≡ boxAt l i .box
+unfolding boxAt slotAt
+box-is l i = refl
 
-  pub live-at : (not (eqb (getD l (i * 8 + 6) 0) 2) && isSet (getD l (i * 8 + 7) 0)) ≡ boxAt l i .live
-  unfolding boxAt
-  live-at = sym (ap (λ (s : Slot). s .row .live) here)
+pub owner-is : (l : List ℕ) (i : ℕ) → keyAt l 1 i ≡ boxAt l i .owner
+unfolding boxAt slotAt
+owner-is l i = refl
 
-  pub gone-at : eqb (getD l (i * 8 + 6) 0) 2 ≡ slotAt l i .gone
-  gone-at = sym (ap (λ (s : Slot). s .gone) here)
+pub out-is : (l : List ℕ) (i : ℕ) → outKind (kindAt l i) ≡ boxAt l i .out
+unfolding boxAt slotAt
+out-is l i = refl
 
-  -- a slot that is read whole
-  pub read-at : {key owner kind live : ℕ} → key ≡ boxAt l i .box → owner ≡ boxAt l i .owner → kind ≡ getD l (i * 8 + 6) 0 → live ≡ getD l (i * 8 + 7) 0 → slotOf key owner kind live ≡ slotAt l i
-  unfolding boxAt
-  read-at p q r s =
-      (λ t. slotOf (p t) (q t) (r t) (s t)) ∙ (λ t. slotOf (here t .row .box) (here t .row .owner) (front l i 6) (front l i 7)) ∙ sym here
+pub gone-is : (l : List ℕ) (i : ℕ) → eqb (kindAt l i) 2 ≡ slotAt l i .gone
+unfolding slotAt
+gone-is l i = refl
+
+pub input-kind : (q : ℕ) → q ≡ 0 → false ≡ outKind q
+input-kind q e = rw (eq-eqb q 0 e)
+
+pub other-kind : (q : ℕ) → (q ≡ 0 → ⊥) → not (eqb q 3) ≡ outKind q
+other-kind q d = rw (ne-eqb q 0 d)
+
+-- an input, as the code tests for it
+module _ (l : List ℕ) (i k : ℕ) (t : Bool) (e : t ≡ eqb (boxAt l i .owner) k) where
+  pub input-other : not t ≡ true → false ≡ isInput k (boxAt l i)
+  input-other p = rw (← e, not-true t p)
+
+  pub input-own : (u : Bool) → not t ≡ false → u ≡ boxAt l i .out → not u ≡ isInput k (boxAt l i)
+  input-own u p f = rw (← e, not-false t p, f)
+
+-- an entry is told by its kind and its box
+kinds : (o : Bool) (q : ℕ) → (ltb q 2 && same o (outKind q)) ≡ eqb q (pick o 1 0)
+kinds true zero = refl
+kinds true (suc zero) = refl
+kinds true (suc (suc q)) = rw (le-ltb (suc (suc q)) 2 (omega arith), ne-eqb (suc (suc q)) 1 (λ e. omega (arith, e)))
+kinds false zero = refl
+kinds false (suc zero) = refl
+kinds false (suc (suc q)) = rw (le-ltb (suc (suc q)) 2 (omega arith), ne-eqb (suc (suc q)) 0 (λ e. omega (arith, e)))
+
+pub entry-is : (l : List ℕ) (i k : ℕ) (o : Bool) → isEntry o k (boxAt l i) ≡ (eqb (boxAt l i .box) k && eqb (kindAt l i) (pick o 1 0))
+unfolding isEntry boxAt slotAt
+entry-is l i k o = ap (λ (t : Bool). eqb (keyAt l 0 i) k && t) (kinds o (kindAt l i))
+
+-- .. as the code tests for it: w is the slot's kind, and v that of a live record
+module _ (l : List ℕ) (i k : ℕ) (o : Bool) (w v : ℕ) (e : w ≡ kindAt l i) (f : v ≡ pick o 1 0) where
+  pub entry-other : (w ≡ v → ⊥) → false ≡ isEntry o k (boxAt l i)
+  entry-other d = sym (entry-is l i k o ∙ rw (ne-eqb (kindAt l i) (pick o 1 0) (λ z. d (e ∙ z ∙ sym f))) (and-false (eqb (boxAt l i .box) k)))
+
+  pub entry-box : w ≡ v → (x : ℕ) → x ≡ boxAt l i .box → eqb x k ≡ isEntry o k (boxAt l i)
+  entry-box d x g =
+      sym (entry-is l i k o ∙ rw (eq-eqb (kindAt l i) (pick o 1 0) (sym e ∙ d ∙ f)) (and-true (eqb (boxAt l i .box) k)) ∙ ap (λ (y : ℕ). eqb y k) (sym g))

@@ -2,16 +2,16 @@
 -- records are moved together. The records are those of the slots that are not vacated, in order (`tidy`).
 use Prim.Native.Nat.{ℕ, zero, suc, _+_, _≤_, _<_, suc-le-suc}
 use mathlib.Core.Path.{_≡_, refl, ap}
-use mathlib.Core.Bool.{Bool, true, false, not, _&&_, and-false}
+use mathlib.Core.Bool.{Bool, true, false, _&&_, and-false}
 use mathlib.Core.List.{List, [], _∷_, _++_, map}
+use native.Mathlib.Nat.{not-suc-le-zero, le-of-suc-le-suc}
 use native.Mathlib.Omega.{arith}
 use lib.Dec.{eqb}
 use lib.ListN.{length}
-use Rattle.words.specs.Lists.{pick, keep}
-use Rattle.words.specs.Rows.{tab}
+use Rattle.words.specs.Lists.{pick}
+use Rattle.words.specs.Rows.{tab, tab-ext}
 use Rattle.boxes.specs.Each.{Each}
-use Rattle.boxes.specs.Records.{BoxRec, Pair, same, dropOwner, index, isInput, inputsOf}
-use Rattle.boxes.specs.Entering.{hideTx}
+use Rattle.boxes.specs.Records.{BoxRec, Pair, same, hide, dropOwner, index, isInput, inputsOf}
 
 -- what stands in a slot, and whether it was vacated
 pub record Slot : Type 0 where
@@ -38,9 +38,9 @@ pub record Inert (s : Slot) : Type 0 where
 abbrev pub leave : ℕ → Slot → Slot
 leave k s = pick (eqb (s .row .owner) k) (vacated s) s
 
--- a newcomer with these boxes hides what is older
-abbrev pub hideSlot : List ℕ → List ℕ → Slot → Slot
-hideSlot ins outs s = record { row = hideTx ins outs (s .row); gone = s .gone }
+-- a newcomer of this kind and box hides what is older
+abbrev pub hideSlot : Bool → ℕ → Slot → Slot
+hideSlot o b s = record { row = hide o b (s .row); gone = s .gone }
 
 -- of three slots transaction 1 leaves the first and the last, and the one of 2 stays
 leave-edge : tidy (map (leave 1) (solid (record { box = 5; owner = 1; out = false; live = true }) ∷ solid (record { box = 6; owner = 2; out = true; live = true }) ∷ solid (record { box = 7; owner = 1; out = true; live = true }) ∷ []))
@@ -57,18 +57,14 @@ tidy-append (s ∷ a) b = go (s .gone) (tidy-append a b)
     go true e = e
     go false e = ap (λ (r : List BoxRec). s .row ∷ r) e
 
-pub tidy-solid : (rs : List BoxRec) → tidy (map solid rs) ≡ rs
-tidy-solid [] = refl
-tidy-solid (r ∷ rs) = ap (λ (x : List BoxRec). r ∷ x) (tidy-solid rs)
-
-pub tidy-hide : (ins outs : List ℕ) (ss : List Slot) → tidy (map (hideSlot ins outs) ss) ≡ map (hideTx ins outs) (tidy ss)
-tidy-hide ins outs [] = refl
-tidy-hide ins outs (s ∷ ss) = go (s .gone) (tidy-hide ins outs ss)
+pub tidy-hide : (o : Bool) (b : ℕ) (ss : List Slot) → tidy (map (hideSlot o b) ss) ≡ map (hide o b) (tidy ss)
+tidy-hide o b [] = refl
+tidy-hide o b (s ∷ ss) = go (s .gone) (tidy-hide o b ss)
   where
-    go : (t : Bool) → tidy (map (hideSlot ins outs) ss) ≡ map (hideTx ins outs) (tidy ss)
-        → pick t (tidy (map (hideSlot ins outs) ss)) (hideTx ins outs (s .row) ∷ tidy (map (hideSlot ins outs) ss)) ≡ map (hideTx ins outs) (pick t (tidy ss) (s .row ∷ tidy ss))
+    go : (t : Bool) → tidy (map (hideSlot o b) ss) ≡ map (hide o b) (tidy ss)
+        → pick t (tidy (map (hideSlot o b) ss)) (hide o b (s .row) ∷ tidy (map (hideSlot o b) ss)) ≡ map (hide o b) (pick t (tidy ss) (s .row ∷ tidy ss))
     go true e = e
-    go false e = ap (λ (r : List BoxRec). hideTx ins outs (s .row) ∷ r) e
+    go false e = ap (λ (r : List BoxRec). hide o b (s .row) ∷ r) e
 
 pub tidy-leave : (k : ℕ) (ss : List Slot) → tidy (map (leave k) ss) ≡ dropOwner k (tidy ss)
 tidy-leave k [] = refl
@@ -81,25 +77,18 @@ tidy-leave k (s ∷ ss) = go (eqb (s .row .owner) k) refl (s .gone) refl (tidy-l
     go false p true q e = rw q e
     go false p false q e = rw (q, p) (ap (λ (r : List BoxRec). s .row ∷ r) e)
 
--- vacated slots are taken out, and as many are left as there are records
-abbrev pub stays : Slot → Bool
-stays s = not (s .gone)
-
-pub tidy-keep : (ss : List Slot) → tidy (keep stays ss) ≡ tidy ss
-tidy-keep [] = refl
-tidy-keep (s ∷ ss) = go (s .gone) refl (tidy-keep ss)
+-- one slot is vacated: there is one record less
+pub tidy-fewer : (f g : ℕ → Slot) (n i : ℕ) → i < n → f i .gone ≡ false → g i .gone ≡ true → ((j : ℕ) → (j ≡ i → ⊥) → g j ≡ f j) → suc (length (tidy (tab g n))) ≡ length (tidy (tab f n))
+tidy-fewer f g zero i b p q h = absurd (not-suc-le-zero b)
+tidy-fewer f g (suc n) zero b p q h =
+    rw (p, q) (ap (λ (ss : List Slot). suc (length (tidy ss))) (tab-ext (λ i. g (suc i)) (λ i. f (suc i)) n (λ j c. h (suc j) (λ e. omega (arith, e)))))
+tidy-fewer f g (suc n) (suc i) b p q h =
+    rw (h zero (λ e. omega (arith, e)))
+    (go (f zero .gone) (tidy (tab (λ j. g (suc j)) n)) (tidy (tab (λ j. f (suc j)) n)) (f zero .row) (tidy-fewer (λ j. f (suc j)) (λ j. g (suc j)) n i (le-of-suc-le-suc b) p q (λ j d. h (suc j) (λ e. d (omega (arith, e))))))
   where
-    go : (t : Bool) → s .gone ≡ t → tidy (keep stays ss) ≡ tidy ss → tidy (pick (not t) (s ∷ keep stays ss) (keep stays ss)) ≡ pick t (tidy ss) (s .row ∷ tidy ss)
-    go true q e = e
-    go false q e = rw q (ap (λ (r : List BoxRec). s .row ∷ r) e)
-
-pub length-keep : (ss : List Slot) → length (keep stays ss) ≡ length (tidy ss)
-length-keep [] = refl
-length-keep (s ∷ ss) = go (s .gone) (length-keep ss)
-  where
-    go : (t : Bool) → length (keep stays ss) ≡ length (tidy ss) → length (pick (not t) (s ∷ keep stays ss) (keep stays ss)) ≡ length (pick t (tidy ss) (s .row ∷ tidy ss))
-    go true e = e
-    go false e = ap suc e
+    go : (t : Bool) (x y : List BoxRec) (r : BoxRec) → suc (length x) ≡ length y → suc (length (pick t x (r ∷ x))) ≡ length (pick t y (r ∷ y))
+    go true x y r e = e
+    go false x y r e = ap suc e
 
 pub length-tidy : (ss : List Slot) → length (tidy ss) ≤ length ss
 length-tidy [] = omega arith

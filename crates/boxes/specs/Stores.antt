@@ -1,240 +1,111 @@
--- What stores of words do to the slots, and the free part that is lent: laws of the words of `Layout`.
-use Prim.Native.Nat.{ℕ, _+_, _-_, _*_, _/_, _≤_, _<_}
+-- What stores of words do to the slots: laws of the words of `Layout`. A store is stated pointwise: this slot is that, and each word but the slot's own is as it was.
+use Prim.Native.Nat.{ℕ, zero, suc, _+_, _-_, _*_, _≤_, _<_}
 use mathlib.Core.Path.{_≡_, refl, sym, ap, subst, _∙_}
-use mathlib.Core.Logic.{_≢_}
-use mathlib.Core.Bool.{Bool, true, false, not, and-false}
-use mathlib.Core.List.{List, [], _∷_, _++_}
+use mathlib.Core.List.{List, [], _∷_}
+use native.Mathlib.Nat.{add-zero, add-suc, suc-add}
 use native.Mathlib.Decide.{decLt}
 use native.Mathlib.Omega.{arith}
-use lib.ListN.{length, getD, take, drop, set, length-take, length-drop, length-set, length-append, List·getD-append}
-use lib.Seq.{sets, length-sets, getD-set-same, getD-set-other, getD-take, getD-drop, getD-append-add}
-use lib.Dec.{eqb, ltb}
-use borrow.Rule.Slice.PartMut.{post-is}
-use borrow.Author.Tests.{eqb-true, eqb-false, ltb-true}
-use Rattle.words.specs.Lists.{pick}
-use Rattle.words.specs.Rows.{tab-ext, tab-add, tab-set, stored, stored-sets, stored-append, sets-before, sets-after, blk-word, blk-stored}
-use Rattle.words.specs.Ids.{num, idOf}
+use lib.ListN.{length, getD, set, length-set}
+use lib.Seq.{sets, getD-set-same, getD-set-other}
+use Rattle.words.specs.Rows.{stored, stored-sets, stored-append, sets-before, sets-after}
+use Rattle.words.specs.Ids.{num, idOf, idAt, idWords}
 use Rattle.words.specs.declared.ids.Id.{Id}
-use Rattle.boxes.specs.Slots.{Slot, solid, vacated}
-use Rattle.boxes.specs.Entering.{hidden}
-use Rattle.boxes.specs.declared.rows.BoxRow.{BoxRow}
-use Rattle.boxes.specs.Layout.{isSet, boxOf, boxesRoom, BoxesOk, slotOf, slotBy, nothing, front, slotAt, slotsOf, boxAt, here}
+use Rattle.boxes.specs.Slots.{Slot}
+use Rattle.boxes.specs.Layout.{boxSlots, keyAt, kindAt, slotOf, slotAt}
+use Rattle.boxes.specs.Index.{Indexed, unique, slot-ext, indexed-same}
 
--- ---- a store: one slot is another, and the others are as they were
-
+-- the record of one slot is another; all other words are as they were
 pub record Put (l m : List ℕ) (at : ℕ) (x : Slot) : Type 0 where
   pub here : slotAt m at ≡ x
-  pub others : (j : ℕ) → j ≢ at → slotAt m j ≡ slotAt l j
+  pub words : (i a : ℕ) {p : ℕ} → p ≡ i * 13 + a → a < 13 → (i ≡ at → a < 9 → ⊥) → getD m p 0 ≡ getD l p 0
 
-pub put-all : (l m : List ℕ) (at : ℕ) (x : Slot) → Put l m at x → (n : ℕ) → slotsOf m n ≡ set (slotsOf l n) at x
-unfolding slotsOf
-put-all l m at x p n = tab-set (slotAt l) (slotAt m) n at x (p .here) (p .others)
+pub put-others : (l m : List ℕ) (at : ℕ) (x : Slot) → Put l m at x → (j : ℕ) → (j ≡ at → ⊥) → slotAt m j ≡ slotAt l j
+put-others l m at x p j d = slot-ext l m j (λ a q e b. p .words j a {p = q} e (omega arith) (λ u v. d u))
 
--- slots of the same words
-slot-same : (f g : ℕ → ℕ) (d d' e e' : ℕ) → ((c : ℕ) → c < 8 → f c ≡ g c) → d ≡ d' → e ≡ e' → slotBy f d e ≡ slotBy g d' e'
-slot-same f g d d' e e' h p q =
-    λ t. slotOf (num (h 0 (omega arith) t) (h 1 (omega arith) t) (h 2 (omega arith) t) (p t)) (num (h 3 (omega arith) t) (h 4 (omega arith) t) (h 5 (omega arith) t) (q t)) (h 6 (omega arith) t) (h 7 (omega arith) t)
+-- ---- nine words
 
-same-slot : (l m : List ℕ) (i : ℕ) → length m ≡ length l → (i < boxesRoom l → (c : ℕ) → c < 8 → front m i c ≡ front l i c)
-    → (i < boxesRoom l → (c : ℕ) → 0 < c → c ≤ 2 → getD m (length l - (i * 2 + c)) 0 ≡ getD l (length l - (i * 2 + c)) 0) → slotAt m i ≡ slotAt l i
-unfolding slotAt boxesRoom
-same-slot l m i e f b = rw e (go (ltb i (length l / 10)) refl)
-  where
-    go : (t : Bool) → ltb i (length l / 10) ≡ t
-        → pick t (slotBy (front m i) (getD m (length l - (i * 2 + 2)) 0) (getD m (length l - (i * 2 + 1)) 0)) nothing ≡ pick t (slotBy (front l i) (getD l (length l - (i * 2 + 2)) 0) (getD l (length l - (i * 2 + 1)) 0)) nothing
-    go true q = let h = ltb-true i (length l / 10) q in slot-same (front m i) (front l i) _ _ _ _ (f h) (b h 2 (omega arith) (omega arith)) (b h 1 (omega arith) (omega arith))
-    go false q = refl
+sets-in : (vs l : List ℕ) (p j : ℕ) → j < length vs → p + length vs ≤ length l → getD (sets l p vs) (p + j) 0 ≡ getD vs j 0
+sets-in [] l p j h r = absurd (omega arith)
+sets-in (v ∷ vs) l p zero h r = rw (add-zero p) (sets-before vs (set l p v) (suc p) p (omega arith) ∙ getD-set-same l p v 0 (omega arith))
+sets-in (v ∷ vs) l p (suc j) h r = rw (add-suc p j, ← suc-add p j) (sets-in vs (set l p v) (suc p) j (omega arith) (simp length-set (omega arith)))
 
--- one of the eight words
-module _ (l : List ℕ) (at c v : ℕ) (h : BoxesOk l (at + 1)) (b : c < 8) where
-  set-others : (j : ℕ) → j ≢ at → slotAt (set l (at * 8 + c) v) j ≡ slotAt l j
-  unfolding BoxesOk boxesRoom
-  set-others j n =
-      same-slot l (set l (at * 8 + c) v) j (length-set l (at * 8 + c) v)
-      (λ g d k. getD-set-other l (at * 8 + c) (j * 8 + d) v 0 (λ q. n (omega (arith, q))))
-      (λ g d k k'. getD-set-other l (at * 8 + c) (length l - (j * 2 + d)) v 0 (λ q. absurd (omega (arith, q))))
+abbrev pub rowWords : Id → Id → ℕ → List ℕ
+rowWords x y q = x .a ∷ x .b ∷ x .c ∷ x .d ∷ y .a ∷ y .b ∷ y .c ∷ y .d ∷ q ∷ []
 
-  -- .. of the slot itself
-  set-here : slotAt (set l (at * 8 + c) v) at ≡ slotBy (front (set l (at * 8 + c) v) at) (getD l (length l - (at * 2 + 2)) 0) (getD l (length l - (at * 2 + 1)) 0)
-  unfolding BoxesOk boxesRoom
-  set-here =
-      here (set l (at * 8 + c) v) at (rw (length-set l (at * 8 + c) v) h)
-      ∙ rw (length-set l (at * 8 + c) v)
-      (slot-same (front (set l (at * 8 + c) v) at) (front (set l (at * 8 + c) v) at) _ (getD l (length l - (at * 2 + 2)) 0) _ (getD l (length l - (at * 2 + 1)) 0) (λ d k. refl)
-      (getD-set-other l (at * 8 + c) (length l - (at * 2 + 2)) v 0 (λ q. absurd (omega (arith, q))))
-      (getD-set-other l (at * 8 + c) (length l - (at * 2 + 1)) v 0 (λ q. absurd (omega (arith, q)))))
+module _ (l : List ℕ) (n : ℕ) (x y : Id) (q : ℕ) (h : n < boxSlots l) where
+  abbrev now : List ℕ
+  now = sets l (n * 13) (rowWords x y q)
 
--- .. its words: the one that is stored, and the others as they were
-stored-word : (l : List ℕ) (at c v : ℕ) → BoxesOk l (at + 1) → c < 8 → (d : ℕ) → front (set l (at * 8 + c) v) at d ≡ pick (eqb d c) v (front l at d)
-unfolding BoxesOk boxesRoom
-stored-word l at c v h b d = go (eqb d c) refl
-  where
-    go : (t : Bool) → eqb d c ≡ t → front (set l (at * 8 + c) v) at d ≡ pick t v (front l at d)
-    go true q = let e : d ≡ c = eqb-true d c q in rw e (getD-set-same l (at * 8 + c) v 0 (omega arith))
-    go false q = getD-set-other l (at * 8 + c) (at * 8 + d) v 0 (λ z. eqb-false d c q (omega (arith, z)))
+  row-at : (j : ℕ) {p : ℕ} → p ≡ n * 13 + j → j < 9 → getD now p 0 ≡ getD (rowWords x y q) j 0
+  row-at j e b = rw e (sets-in (rowWords x y q) l (n * 13) j b (omega arith))
 
-word-put : (l : List ℕ) (at c v : ℕ) → BoxesOk l (at + 1) → c < 8
-    → Put l (set l (at * 8 + c) v) at (slotBy (λ d. pick (eqb d c) v (front l at d)) (getD l (length l - (at * 2 + 2)) 0) (getD l (length l - (at * 2 + 1)) 0))
-word-put l at c v h b =
-    record {
-      here = set-here l at c v h b ∙ slot-same (front (set l (at * 8 + c) v) at) (λ d. pick (eqb d c) v (front l at d)) _ _ _ _ (λ d k. stored-word l at c v h b d) refl refl;
-      others = set-others l at c v h b;
-    }
-
--- a slot is vacated by its kind, and hidden by its flag
-module _ (l : List ℕ) (at : ℕ) (h : BoxesOk l (at + 1)) where
-  pub vacate-put : Put l (set l (at * 8 + 6) 2) at (vacated (slotAt l at))
-  vacate-put = subst (Put l (set l (at * 8 + 6) 2) at) (ap vacated (sym (here l at h))) (word-put l at 6 2 h (omega arith))
-
-  pub hide-put : Put l (set l (at * 8 + 7) 0) at (record { row = hidden (boxAt l at); gone = slotAt l at .gone })
-  unfolding boxAt
-  hide-put = subst (Put l (set l (at * 8 + 7) 0) at) (unlit ∙ ap (λ (s : Slot). record { row = hidden (s .row); gone = s .gone }) (sym (here l at h))) (word-put l at 7 0 h (omega arith))
+  row-out : (k : ℕ) → (n * 13 ≤ k → k < n * 13 + 9 → ⊥) → getD now k 0 ≡ getD l k 0
+  row-out k d = go (decLt k (n * 13))
     where
-      f : ℕ → ℕ
-      f = front l at
+      go : Dec (k < n * 13) → getD (sets l (n * 13) (rowWords x y q)) k 0 ≡ getD l k 0
+      go (yes b) = sets-before (rowWords x y q) l (n * 13) k b
+      go (no b) = sets-after (rowWords x y q) l (n * 13) k (far (decLt k (n * 13 + 9)))
+        where
+          far : Dec (k < n * 13 + 9) → n * 13 + 9 ≤ k
+          far (yes z) = absurd (d (omega (arith, b)) z)
+          far (no z) = omega (arith, z)
 
-      d : ℕ
-      d = getD l (length l - (at * 2 + 2)) 0
+  row-here : slotAt now n ≡ slotOf (idOf x) (idOf y) q
+  unfolding slotAt keyAt idAt kindAt idOf
+  row-here =
+      λ t.
+      slotOf
+      (num (row-at 0 {p = n * 13 + 0 * 4} (omega arith) (omega arith) t) (row-at 1 {p = n * 13 + 0 * 4 + 1} (omega arith) (omega arith) t) (row-at 2 {p = n * 13 + 0 * 4 + 2} (omega arith) (omega arith) t) (row-at 3 {p = n * 13 + 0 * 4 + 3} (omega arith) (omega arith) t))
+      (num (row-at 4 {p = n * 13 + 1 * 4} (omega arith) (omega arith) t) (row-at 5 {p = n * 13 + 1 * 4 + 1} (omega arith) (omega arith) t) (row-at 6 {p = n * 13 + 1 * 4 + 2} (omega arith) (omega arith) t) (row-at 7 {p = n * 13 + 1 * 4 + 3} (omega arith) (omega arith) t))
+      (row-at 8 {p = n * 13 + 8} (omega arith) (omega arith) t)
 
-      e : ℕ
-      e = getD l (length l - (at * 2 + 1)) 0
-
-      unlit : slotOf (num (f 0) (f 1) (f 2) d) (num (f 3) (f 4) (f 5) e) (f 6) 0 ≡ record { row = hidden (slotBy f d e .row); gone = slotBy f d e .gone }
-      unlit = λ t. record { row = record { box = num (f 0) (f 1) (f 2) d; owner = num (f 3) (f 4) (f 5) e; out = isSet (f 6); live = and-false (not (eqb (f 6) 2)) t }; gone = eqb (f 6) 2 }
-
--- ten words
-module _ (l ws : List ℕ) (at d e : ℕ) (len : length ws ≡ 8) (h : BoxesOk l (at + 1)) where
-  abbrev inner : List ℕ
-  inner = set (stored l (at * 8) ws) (length l - (at * 2 + 2)) d
-
-  abbrev pub written : List ℕ
-  written = set inner (length l - (at * 2 + 1)) e
-
-  length-written : length written ≡ length l
-  length-written = length-set inner (length l - (at * 2 + 1)) e ∙ length-set (stored l (at * 8) ws) (length l - (at * 2 + 2)) d ∙ ap length (stored-sets ws l (at * 8)) ∙ length-sets l (at * 8) ws
-
-  -- words outside of them
-  aside : (x : ℕ) → x ≢ length l - (at * 2 + 2) → x ≢ length l - (at * 2 + 1) → getD written x 0 ≡ getD (stored l (at * 8) ws) x 0
-  aside x p q = getD-set-other inner (length l - (at * 2 + 1)) x e 0 q ∙ getD-set-other (stored l (at * 8) ws) (length l - (at * 2 + 2)) x d 0 p
-
-  below : (x : ℕ) → x < at * 8 → x ≢ length l - (at * 2 + 2) → x ≢ length l - (at * 2 + 1) → getD written x 0 ≡ getD l x 0
-  below x b p q = aside x p q ∙ ap (λ (m : List ℕ). getD m x 0) (stored-sets ws l (at * 8)) ∙ sets-before ws l (at * 8) x b
-
-  above : (x : ℕ) → at * 8 + 8 ≤ x → x ≢ length l - (at * 2 + 2) → x ≢ length l - (at * 2 + 1) → getD written x 0 ≡ getD l x 0
-  above x b p q = aside x p q ∙ ap (λ (m : List ℕ). getD m x 0) (stored-sets ws l (at * 8)) ∙ sets-after ws l (at * 8) x (omega (arith, len))
-
-  inside : (c : ℕ) → c < 8 → front written at c ≡ getD ws c 0
-  unfolding BoxesOk boxesRoom
-  inside c b =
-      aside (at * 8 + c) (λ q. absurd (omega (arith, q))) (λ q. absurd (omega (arith, q)))
-      ∙ ap (λ (m : List ℕ). getD m (at * 8 + c) 0) (stored-sets ws l (at * 8))
-      ∙ sym (blk-word 8 (sets l (at * 8) ws) at c b)
-      ∙ ap (λ (m : List ℕ). getD m c 0) (blk-stored 8 l ws at len (omega arith))
-
-  written-put : Put l written at (slotBy (λ c. getD ws c 0) d e)
-  unfolding BoxesOk boxesRoom
-  written-put =
-      record {
-        here =
-            here written at (rw length-written h)
-            ∙ rw length-written
-            (slot-same (front written at) (λ c. getD ws c 0) _ _ _ _ inside
-            (getD-set-other inner (length l - (at * 2 + 1)) (length l - (at * 2 + 2)) e 0 (λ q. absurd (omega (arith, q)))
-            ∙ getD-set-same (stored l (at * 8) ws) (length l - (at * 2 + 2)) d 0 (omega (arith, ap length (stored-sets ws l (at * 8)) ∙ length-sets l (at * 8) ws)))
-            (getD-set-same inner (length l - (at * 2 + 1)) e 0 (omega (arith, length-set (stored l (at * 8) ws) (length l - (at * 2 + 2)) d, ap length (stored-sets ws l (at * 8)) ∙ length-sets l (at * 8) ws))));
-        others = λ j n. same-slot l written j length-written (λ g c k. go j n g c k (decLt j at)) (λ g c k k'. above (length l - (j * 2 + c)) (omega arith) (λ q. n (omega (arith, q))) (λ q. n (omega (arith, q))));
-      }
+  row-put : Put l now n (slotOf (idOf x) (idOf y) q)
+  row-put = record { here = row-here; words = λ i a {p} e b d. row-out p (λ u v. far i a b d (omega arith) (omega arith) (decLt i n) (decLt n i)) }
     where
-      go : (j : ℕ) → j ≢ at → j < length l / 10 → (c : ℕ) → c < 8 → Dec (j < at) → front written j c ≡ front l j c
-      go j n g c k (yes p) = below (j * 8 + c) (omega arith) (λ q. absurd (omega (arith, q))) (λ q. absurd (omega (arith, q)))
-      go j n g c k (no p) = above (j * 8 + c) (omega (arith, n, p)) (λ q. absurd (omega (arith, q))) (λ q. absurd (omega (arith, q)))
+      far : (i a : ℕ) → a < 13 → (i ≡ n → a < 9 → ⊥) → n * 13 ≤ i * 13 + a → i * 13 + a < n * 13 + 9 → Dec (i < n) → Dec (n < i) → ⊥
+      far i a b d u v (yes z) w = omega arith
+      far i a b d u v (no z) (yes w) = omega arith
+      far i a b d u v (no z) (no w) = d (omega (arith, z, w)) (omega (arith, z, w))
 
--- .. as the code writes them, in two runs and two stores
-pub put-parts : (l : List ℕ) (at : ℕ) (x y : Id) (kind live : ℕ) → BoxesOk l (at + 1)
-    → Put l (set (set (stored (stored l (at * 8) (x .a ∷ x .b ∷ x .c ∷ y .a ∷ [])) (at * 8 + 4) (y .b ∷ y .c ∷ kind ∷ live ∷ [])) (length l - (at * 2 + 2)) (x .d)) (length l - (at * 2 + 1)) (y .d)) at (slotOf (idOf x) (idOf y) kind live)
-unfolding idOf
-put-parts l at x y kind live h =
-    subst (λ (m : List ℕ). Put l (set (set m (length l - (at * 2 + 2)) (x .d)) (length l - (at * 2 + 1)) (y .d)) at (slotOf (idOf x) (idOf y) kind live))
-    (stored-append (x .a ∷ x .b ∷ x .c ∷ y .a ∷ []) (y .b ∷ y .c ∷ kind ∷ live ∷ []) l (at * 8))
-    (written-put l (x .a ∷ x .b ∷ x .c ∷ y .a ∷ y .b ∷ y .c ∷ kind ∷ live ∷ []) at (x .d) (y .d) refl h)
+-- .. as the code writes them, in two calls and a store
+pub put-parts : (l : List ℕ) (n : ℕ) (x y : Id) (q : ℕ) → n < boxSlots l → Put l (set (stored (stored l (n * 13) (idWords x)) (n * 13 + 4) (idWords y)) (n * 13 + 8) q) n (slotOf (idOf x) (idOf y) q)
+put-parts l n x y q h =
+    subst (λ (m : List ℕ). Put l m n (slotOf (idOf x) (idOf y) q))
+    (sym (stored-sets (rowWords x y q) l (n * 13))
+    ∙ stored-append (idWords x) (y .a ∷ y .b ∷ y .c ∷ y .d ∷ q ∷ []) l (n * 13)
+    ∙ stored-append (idWords y) (q ∷ []) (stored l (n * 13) (idWords x)) (n * 13 + 4)
+    ∙ ap (λ (p : ℕ). set (stored (stored l (n * 13) (idWords x)) (n * 13 + 4) (idWords y)) p q) (omega arith))
+    (row-put l n x y q h)
 
--- a record is written with its flags
-pub put-row : (l m : List ℕ) (at : ℕ) (r : BoxRow) (kind live : ℕ) → kind ≡ pick (r .out) 1 0 → live ≡ pick (r .live) 1 0 → Put l m at (slotOf (idOf (r .key)) (idOf (r .owner)) kind live) → Put l m at (solid (boxOf r))
-unfolding boxOf
-put-row l m at r kind live p q = subst (Put l m at) ((λ t. slotOf (idOf (r .key)) (idOf (r .owner)) (p t) (q t)) ∙ go (r .out) (r .live))
-  where
-    go : (o v : Bool) → slotOf (idOf (r .key)) (idOf (r .owner)) (pick o 1 0) (pick v 1 0) ≡ solid (record { box = idOf (r .key); owner = idOf (r .owner); out = o; live = v })
-    go true true = refl
-    go true false = refl
-    go false true = refl
-    go false false = refl
+-- a slot that is read whole
+pub read-whole : (l : List ℕ) (i : ℕ) {x y q : ℕ} → x ≡ keyAt l 0 i → y ≡ keyAt l 1 i → q ≡ kindAt l i → slotOf x y q ≡ slotAt l i
+unfolding slotAt
+read-whole l i e f g = λ t. slotOf (e t) (f t) (g t)
 
--- ---- the free part, between the words of the used slots at the front and those at the back, as the code lends it
+-- ---- the kind alone
 
-abbrev pub freeOf : List ℕ → ℕ → List ℕ
-freeOf l n = take (length l - n * 2 - n * 8) (drop (n * 8) l)
+module _ (l : List ℕ) (n q : ℕ) (h : n < boxSlots l) where
+  kind-word : (p : ℕ) → (p ≡ n * 13 + 8 → ⊥) → getD (set l (n * 13 + 8) q) p 0 ≡ getD l p 0
+  kind-word p d = getD-set-other l (n * 13 + 8) p q 0 d
 
--- it is a table of its own, which has the room that is left
-pub free-ok : (l : List ℕ) (n k : ℕ) → BoxesOk l (n + k) → BoxesOk (freeOf l n) k
-unfolding BoxesOk boxesRoom
-free-ok l n k h = simp (length-take, length-drop) (omega arith)
+  pub kind-words : (i a : ℕ) {p : ℕ} → p ≡ i * 13 + a → a < 13 → (i ≡ n → a ≡ 8 → ⊥) → getD (set l (n * 13 + 8) q) p 0 ≡ getD l p 0
+  kind-words i a {p} e b d = kind-word p (λ z. let u = unique i n a 8 b (omega arith) (omega (arith, e, z)) in d (u .0) (u .1))
 
--- .. and what stands behind it
-pub behind : (l : List ℕ) (n k : ℕ) → BoxesOk l (n + k) → drop (length l - n * 2 - n * 8) (drop (n * 8) l) ≡ drop (length l - n * 2) l
-unfolding BoxesOk boxesRoom
-behind l n k h = post-is (n * 8) (length l - n * 2) l (omega arith)
+  pub kind-here : slotAt (set l (n * 13 + 8) q) n ≡ slotOf (keyAt l 0 n) (keyAt l 1 n) q
+  unfolding slotAt keyAt idAt kindAt
+  kind-here =
+      λ t.
+      slotOf
+      (num (kind-word (n * 13 + 0 * 4) (λ e. omega arith) t) (kind-word (n * 13 + 0 * 4 + 1) (λ e. omega arith) t) (kind-word (n * 13 + 0 * 4 + 2) (λ e. omega arith) t) (kind-word (n * 13 + 0 * 4 + 3) (λ e. omega arith) t))
+      (num (kind-word (n * 13 + 1 * 4) (λ e. omega arith) t) (kind-word (n * 13 + 1 * 4 + 1) (λ e. omega arith) t) (kind-word (n * 13 + 1 * 4 + 2) (λ e. omega arith) t) (kind-word (n * 13 + 1 * 4 + 3) (λ e. omega arith) t))
+      (getD-set-same l (n * 13 + 8) q 0 (omega arith) t)
 
--- words in three parts
-module _ (a t z : List ℕ) where
-  in-first : (x : ℕ) → x < length a → getD (a ++ (t ++ z)) x 0 ≡ getD a x 0
-  in-first x h = List·getD-append a (t ++ z) 0 x h
-
-  in-second : (y : ℕ) → y < length t → getD (a ++ (t ++ z)) (length a + y) 0 ≡ getD t y 0
-  in-second y h = getD-append-add a (t ++ z) y 0 ∙ List·getD-append t z 0 y h
-
-  in-third : (y : ℕ) → getD (a ++ (t ++ z)) (length a + (length t + y)) 0 ≡ getD z y 0
-  in-third y = getD-append-add a (t ++ z) (length t + y) 0 ∙ getD-append-add t z y 0
-
--- what is written to it stands behind the n slots
-module _ (l t : List ℕ) (n : ℕ) (h : BoxesOk l n) (s : length t ≡ length (freeOf l n)) where
-  abbrev pub rejoined : List ℕ
-  rejoined = take (n * 8) l ++ (t ++ drop (length l - n * 2) l)
-
-  size-first : length (take (n * 8) l) ≡ n * 8
-  unfolding BoxesOk boxesRoom
-  size-first = length-take (n * 8) l ∙ omega arith
-
-  size-free : length t ≡ length l - n * 10
-  unfolding BoxesOk boxesRoom
-  size-free = s ∙ simp (length-take, length-drop) (omega arith)
-
-  length-rejoined : length rejoined ≡ length l
-  unfolding BoxesOk boxesRoom
-  length-rejoined = simp (length-append, length-drop) (omega (arith, size-first, size-free))
-
-  pub old-slot : (i : ℕ) → i < n → slotAt rejoined i ≡ slotAt l i
-  unfolding BoxesOk boxesRoom
-  old-slot i b =
-      same-slot l rejoined i length-rejoined
-      (λ g c k. in-first (take (n * 8) l) t (drop (length l - n * 2) l) (i * 8 + c) (omega (arith, size-first)) ∙ getD-take (n * 8) l (i * 8 + c) 0 (omega arith))
-      (λ g c k k'.
-      let p : length l - (i * 2 + c) ≡ length (take (n * 8) l) + (length t + (n * 2 - (i * 2 + c))) = omega (arith, size-first, size-free) in
-      let q : length l - (i * 2 + c) ≡ length l - n * 2 + (n * 2 - (i * 2 + c)) = omega arith in
-      ap (λ (x : ℕ). getD rejoined x 0) p ∙ in-third (take (n * 8) l) t (drop (length l - n * 2) l) (n * 2 - (i * 2 + c)) ∙ getD-drop (length l - n * 2) l (n * 2 - (i * 2 + c)) 0 ∙ ap (λ (x : ℕ). getD l x 0) (sym q))
-
-  new-slot : (k : ℕ) → BoxesOk t k → (i : ℕ) → i < k → slotAt rejoined (n + i) ≡ slotAt t i
-  unfolding BoxesOk boxesRoom
-  new-slot k o i b =
-      here rejoined (n + i) (rw length-rejoined (omega (arith, size-free)))
-      ∙ slot-same (front rejoined (n + i)) (front t i) _ _ _ _
-      (λ c g. word ((n + i) * 8 + c) (i * 8 + c) (omega (arith, size-first)) (omega arith))
-      (word (length rejoined - ((n + i) * 2 + 2)) (length t - (i * 2 + 2)) (omega (arith, size-first, size-free, length-rejoined)) (omega arith))
-      (word (length rejoined - ((n + i) * 2 + 1)) (length t - (i * 2 + 1)) (omega (arith, size-first, size-free, length-rejoined)) (omega arith))
-      ∙ sym (here t i (omega arith))
-    where
-      word : (x y : ℕ) → x ≡ length (take (n * 8) l) + y → y < length t → getD rejoined x 0 ≡ getD t y 0
-      word x y p q = ap (λ (z : ℕ). getD rejoined z 0) p ∙ in-second (take (n * 8) l) t (drop (length l - n * 2) l) y q
-
-  pub free-put : (k : ℕ) → BoxesOk t k → slotsOf rejoined (n + k) ≡ slotsOf l n ++ slotsOf t k
-  unfolding slotsOf
-  free-put k o = tab-add (slotAt rejoined) n k ∙ λ j. tab-ext _ _ n old-slot j ++ tab-ext _ _ k (new-slot k o) j
+-- words of which the kinds of some slots alone are others are the same indexes
+pub indexed-kinds : (l m : List ℕ) → length m ≡ length l → ((i a : ℕ) (p : ℕ) → p ≡ i * 13 + a → a < 13 → (a ≡ 8 → ⊥) → getD m p 0 ≡ getD l p 0) → (c n : ℕ) → c < 2 → Indexed l c n → Indexed m c n
+indexed-kinds l m e w c n h x =
+    indexed-same l m c n e
+    (w (boxSlots l) 1 (boxSlots l * 13 + 1) refl (omega arith) (λ z. omega arith))
+    (λ i b. w i (c * 4 + 3) (i * 13 + c * 4 + 3) (omega arith) (omega arith) (λ z. omega arith))
+    (λ i b. w i (9 + c) (i * 13 + 9 + c) (omega arith) (omega arith) (λ z. omega arith))
+    (λ b g. w b (11 + c) (b * 13 + 11 + c) (omega arith) (omega arith) (λ z. omega arith))
+    x

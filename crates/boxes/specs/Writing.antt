@@ -1,146 +1,106 @@
--- The records as the code changes them: a record is hidden, a range of slots is swept, the writer's loop, the lent part.
+-- The record writer: a newcomer's boxes are written into the free part, all live, and the words of the indexes stay.
 use Prim.Native.Nat.{ℕ, _+_, _-_, _*_, _≤_, _<_}
 use mathlib.Core.Path.{_≡_, refl, sym, ap, _∙_}
 use mathlib.Core.Bool.{Bool, true, false}
-use mathlib.Core.List.{List, _++_, append-assoc, append-nil, map}
-use native.Mathlib.Nat.{add-zero, add-assoc}
+use mathlib.Core.List.{List, [], _++_, append-nil}
+use native.Mathlib.Nat.{zero-add}
 use native.Mathlib.Decide.{decLt}
 use native.Mathlib.Omega.{arith}
-use lib.Dec.{eqb}
-use lib.ListN.{length, take, drop, set}
-use Rattle.words.specs.Lists.{pick, map-append}
-use Rattle.words.specs.Tables.{drop-of, drop-past, put-end, of-none}
+use lib.ListN.{length, getD, take, drop, length-take, length-drop, drop-of-length-le, List·getD-append}
+use lib.Seq.{take-all, getD-take, getD-drop, getD-append-add}
+use Rattle.words.specs.Lists.{pick}
 use Rattle.words.specs.Ids.{idAt}
-use Rattle.boxes.specs.Records.{BoxRec, dropOwner}
-use Rattle.boxes.specs.Entering.{overtakenBy, hidden, hideTx, hide-yes, hide-no, newBox, newBoxes}
-use Rattle.boxes.specs.Flat.{countOf, idsOf, ids}
-use Rattle.boxes.specs.Slots.{Slot, solid, vacated, leave, hideSlot, tidy, tidy-append, tidy-solid, tidy-hide}
-use Rattle.boxes.specs.Layout.{BoxesOk, slotAt, slotsOf, slots, boxAt, boxesOf, slots-leave, boxesRoom, room-ok, room-still}
-use Rattle.boxes.specs.Stores.{Put, put-all, freeOf, old-slot, free-put}
-use Rattle.boxes.specs.Clear.{Clear, Still}
-use Rattle.boxes.specs.Posts.{Swept, Compacted, Roomy}
-use Rattle.boxes.specs.Mapped.{put-again}
+use Rattle.boxes.specs.Flat.{countOf}
+use Rattle.boxes.specs.Slots.{Slot, solid}
+use Rattle.boxes.specs.Layout.{boxSlots, slotOf, slotAt}
+use Rattle.boxes.specs.Index.{slot-ext, slot-shift}
+use Rattle.boxes.specs.Stores.{Put, put-others}
 
--- ---- one record, which is hidden or left as it was
+-- a newcomer's record
+abbrev pub fresh : Bool → ℕ → ℕ → Slot
+fresh o k b = solid (record { box = b; owner = k; out = o; live = true })
 
-module _ (l : List ℕ) (i : ℕ) (ins outs : List ℕ) where
-  pub hide-here : (m : List ℕ) → overtakenBy ins outs (boxAt l i) ≡ true → Put l m i (record { row = hidden (boxAt l i); gone = slotAt l i .gone }) → (n : ℕ) → slotsOf m n ≡ set (slotsOf l n) i (hideSlot ins outs (slotAt l i))
-  unfolding boxAt
-  hide-here m t p n = put-all l m i _ p n ∙ ap (λ (r : BoxRec). set (slotsOf l n) i (record { row = r; gone = slotAt l i .gone })) (sym (hide-yes ins outs (slotAt l i .row) t))
+pub fresh-is : (o : Bool) (k b q : ℕ) → q ≡ pick o 1 0 → slotOf b k q ≡ fresh o k b
+fresh-is true k b q e = ap (slotOf b k) e
+fresh-is false k b q e = ap (slotOf b k) e
 
-  pub leave-here : overtakenBy ins outs (boxAt l i) ≡ false → (n : ℕ) → slotsOf l n ≡ set (slotsOf l n) i (hideSlot ins outs (slotAt l i))
-  unfolding boxAt
-  leave-here t n = put-again slots l i n ∙ ap (λ (r : BoxRec). set (slotsOf l n) i (record { row = r; gone = slotAt l i .gone })) (sym (hide-no ins outs (slotAt l i .row) t))
+-- ---- a list of boxes from slot `at` on
 
-pub hide-all : (l m : List ℕ) (n : ℕ) (ins outs : List ℕ) → slotsOf m n ≡ map (hideSlot ins outs) (slotsOf l n) → boxesOf m n ≡ map (hideTx ins outs) (boxesOf l n)
-unfolding boxesOf
-hide-all l m n ins outs e = ap tidy e ∙ tidy-hide ins outs (slotsOf l n)
+pub record Wrote (l m : List ℕ) (at n k : ℕ) (o : Bool) (W : ℕ) (list : List ℕ) : Type 0 where
+  pub new : (j : ℕ) → j < n → slotAt m (at + j) ≡ fresh o k (idAt list (j * W))
+  pub words : (i a : ℕ) (p : ℕ) → p ≡ i * 13 + a → a < 13 → (at ≤ i → i < at + n → a < 9 → ⊥) → getD m p 0 ≡ getD l p 0
 
--- ---- a transaction leaves: of the slots before i, from `from` on, those that it owned are vacated
+module _ (l₀ : List ℕ) (at k : ℕ) (o : Bool) (W : ℕ) (list : List ℕ) where
+  pub wrote-none : Wrote l₀ l₀ at 0 k o W list
+  wrote-none = record { new = λ j b. absurd (omega arith); words = λ i a p x y z. refl }
 
-module _ (l₀ : List ℕ) (k from : ℕ) where
-  pub swept-none : Swept l₀ l₀ k from from
-  swept-none = record { inside = λ j a b. absurd (omega arith); before = λ j b. refl; behind = λ j b. refl }
+  pub wrote-more : (l m : List ℕ) (n key q : ℕ) → Wrote l₀ l at n k o W list → key ≡ idAt list (n * W) → q ≡ pick o 1 0 → Put l m (at + n) (slotOf key k q) → Wrote l₀ m at (n + 1) k o W list
+  wrote-more l m n key q s e f p =
+      record {
+        new = λ j b. go j b (decLt j n);
+        words = λ i a p′ x y z. p .words i a {p = p′} x y (λ u v. z (omega arith) (omega arith) v) ∙ s .words i a p′ x y (λ u v w. z u (omega arith) w);
+      }
+    where
+      go : (j : ℕ) → j < n + 1 → Dec (j < n) → slotAt m (at + j) ≡ fresh o k (idAt list (j * W))
+      go j b (yes z) = put-others l m (at + n) (slotOf key k q) p (at + j) (λ u. omega (arith, u)) ∙ s .new j z
+      go j b (no z) = let u : j ≡ n = omega (arith, z) in rw u (p .here ∙ fresh-is o k key q f ∙ ap (fresh o k) e)
 
-  module _ (l : List ℕ) (i : ℕ) (h : from ≤ i) (s : Swept l₀ l k from i) where
-    here : slotAt l i ≡ slotAt l₀ i
-    here = s .behind i (omega arith)
+-- ---- both lists
 
-    -- one that it does not own
-    pub swept-other : eqb (boxAt l i .owner) k ≡ false → Swept l₀ l k from (i + 1)
-    unfolding boxAt
-    swept-other t = record { inside = λ j a b. go j a b (decLt j i); before = s .before; behind = λ j b. s .behind j (omega arith) }
-      where
-        go : (j : ℕ) → from ≤ j → j < i + 1 → Dec (j < i) → slotAt l j ≡ leave k (slotAt l₀ j)
-        go j a b (yes q) = s .inside j a q
-        go j a b (no q) =
-            let e : j ≡ i = omega (arith, q) in
-            rw e (here ∙ ap (λ (x : Bool). pick x (vacated (slotAt l₀ i)) (slotAt l₀ i)) (sym (ap (λ (z : Slot). eqb (z .row .owner) k) (sym here) ∙ t)))
+pub record WroteBoth (l m : List ℕ) (at k W : ℕ) (ins : List ℕ) (X : ℕ) (outs : List ℕ) : Type 0 where
+  pub inputs : (j : ℕ) → j < countOf W ins → slotAt m (at + j) ≡ fresh false k (idAt ins (j * W))
+  pub outputs : (j : ℕ) → j < countOf X outs → slotAt m (at + (countOf W ins + j)) ≡ fresh true k (idAt outs (j * X))
+  pub words : (i a : ℕ) (p : ℕ) → p ≡ i * 13 + a → a < 13 → (at ≤ i → i < at + (countOf W ins + countOf X outs) → a < 9 → ⊥) → getD m p 0 ≡ getD l p 0
 
-    -- one that it owns
-    pub swept-own : (m : List ℕ) → eqb (boxAt l i .owner) k ≡ true → Put l m i (vacated (slotAt l i)) → Swept l₀ m k from (i + 1)
-    unfolding boxAt
-    swept-own m t p =
-        record {
-          inside = λ j a b. go j a b (decLt j i);
-          before = λ j b. p .others j (λ q. absurd (omega (arith, q))) ∙ s .before j b;
-          behind = λ j b. p .others j (λ q. absurd (omega (arith, q))) ∙ s .behind j (omega arith);
-        }
-      where
-        go : (j : ℕ) → from ≤ j → j < i + 1 → Dec (j < i) → slotAt m j ≡ leave k (slotAt l₀ j)
-        go j a b (yes q) = p .others j (λ z. absurd (omega (arith, z))) ∙ s .inside j a q
-        go j a b (no q) =
-            let e : j ≡ i = omega (arith, q) in
-            rw e (p .here ∙ ap vacated here ∙ ap (λ (x : Bool). pick x (vacated (slotAt l₀ i)) (slotAt l₀ i)) (sym (ap (λ (z : Slot). eqb (z .row .owner) k) (sym here) ∙ t)))
+pub wrote-both : (l o m : List ℕ) (n k W : ℕ) (ins : List ℕ) (X : ℕ) (outs : List ℕ) → n ≡ countOf W ins → Wrote l o 0 (countOf W ins) k false W ins → Wrote o m n (countOf X outs) k true X outs → WroteBoth l m 0 k W ins X outs
+wrote-both l o m n k W ins X outs e f g =
+    record {
+      inputs = λ j b. slot-ext o m (0 + j) (λ a p x y. g .words (0 + j) a p x (omega arith) (λ u v w. omega arith)) ∙ f .new j b;
+      outputs = λ j b. ap (slotAt m) (omega arith) ∙ g .new j b;
+      words = λ i a p x y z. g .words i a p x y (λ u v w. z (omega arith) (omega arith) w) ∙ f .words i a p x y (λ u v w. z u (omega arith) w);
+    }
 
--- one that owns none of some slots leaves them as they are
-stays-clear : (l : List ℕ) (k from to j : ℕ) → Clear l k from to → from ≤ j → j < to → leave k (slotAt l j) ≡ slotAt l j
-unfolding boxAt
-stays-clear l k from to j c a b = ap (λ (x : Bool). pick x (vacated (slotAt l j)) (slotAt l j)) (c .none j a b)
+-- ---- in the part that is lent, behind the used slots
 
--- all slots were swept
-pub swept-all : (l m : List ℕ) (k used : ℕ) → Swept l m k 0 used → boxesOf m used ≡ dropOwner k (boxesOf l used)
-swept-all l m k used s = slots-leave l m k used (λ j b. s .inside j (omega arith) b)
+module _ (l t : List ℕ) (used : ℕ) (h : used ≤ boxSlots l) where
+  abbrev pub rejoined : List ℕ
+  rejoined = take (used * 13) l ++ t
 
--- .. or those that it may own
-pub swept-between : (l m o : List ℕ) (k from to rest used : ℕ) → from ≤ to → to ≤ rest → rest ≤ used → Clear l k 0 from → Clear l k to rest → Swept l m k from to → Swept m o k rest used → boxesOf o used ≡ dropOwner k (boxesOf l used)
-swept-between l m o k from to rest used a b c p q s t = slots-leave l o k used (λ j h. go j h (decLt j from) (decLt j to) (decLt j rest))
+  size : length (take (used * 13) l) ≡ used * 13
+  size = length-take (used * 13) l ∙ omega arith
+
+  in-front : (p : ℕ) → p < used * 13 → getD rejoined p 0 ≡ getD l p 0
+  in-front p b = List·getD-append (take (used * 13) l) t 0 p (omega (arith, size)) ∙ getD-take (used * 13) l p 0 b
+
+  in-part : (p q : ℕ) → p ≡ used * 13 + q → getD rejoined p 0 ≡ getD t q 0
+  in-part p q e = ap (λ (x : ℕ). getD rejoined x 0) (omega (arith, size, e)) ∙ getD-append-add (take (used * 13) l) t q 0
+
+  part-slot : (j : ℕ) → slotAt rejoined (used + j) ≡ slotAt t j
+  part-slot j = slot-shift t rejoined (used + j) j (λ a p q x y z. in-part p q (omega arith))
+
+  pub wrote-behind : (k W : ℕ) (ins : List ℕ) (X : ℕ) (outs : List ℕ) → WroteBoth (drop (used * 13) l) t 0 k W ins X outs → WroteBoth l rejoined used k W ins X outs
+  wrote-behind k W ins X outs s =
+      record {
+        inputs = λ j b. part-slot j ∙ ap (slotAt t) (sym (zero-add j)) ∙ s .inputs j b;
+        outputs = λ j b. part-slot (countOf W ins + j) ∙ ap (slotAt t) (sym (zero-add (countOf W ins + j))) ∙ s .outputs j b;
+        words = λ i a p x y z. go i a p x y z (decLt i used);
+      }
+    where
+      go : (i a p : ℕ) → p ≡ i * 13 + a → a < 13 → (used ≤ i → i < used + (countOf W ins + countOf X outs) → a < 9 → ⊥) → Dec (i < used) → getD rejoined p 0 ≡ getD l p 0
+      go i a p x y z (yes b) = in-front p (omega arith)
+      go i a p x y z (no b) =
+          in-part p (p - used * 13) (omega (arith, b))
+          ∙ s .words (i - used) a (p - used * 13) (omega (arith, b)) y (λ u v w. z (omega (arith, b)) (omega (arith, b)) w)
+          ∙ getD-drop (used * 13) l (p - used * 13) 0
+          ∙ ap (λ (x : ℕ). getD l x 0) (omega (arith, b))
+
+-- .. as the code lends it
+pub wrote-lent : (l t : List ℕ) (used k W : ℕ) (ins : List ℕ) (X : ℕ) (outs : List ℕ) → used ≤ boxSlots l → WroteBoth (take (length l - used * 13) (drop (used * 13) l)) t 0 k W ins X outs
+    → WroteBoth l (take (used * 13) l ++ (t ++ drop (length l - used * 13) (drop (used * 13) l))) used k W ins X outs
+wrote-lent l t used k W ins X outs h s = rw (none, append-nil t) (wrote-behind l t used h k W ins X outs (rw whole at s))
   where
-    go : (j : ℕ) → j < used → Dec (j < from) → Dec (j < to) → Dec (j < rest) → slotAt o j ≡ leave k (slotAt l j)
-    go j h (yes x) y z = t .before j (omega arith) ∙ s .before j x ∙ sym (stays-clear l k 0 from j p (omega arith) x)
-    go j h (no x) (yes y) z = t .before j (omega arith) ∙ s .inside j (omega (arith, x)) y
-    go j h (no x) (no y) (yes z) = t .before j z ∙ s .behind j (omega (arith, y)) ∙ sym (stays-clear l k to rest j q (omega (arith, y)) z)
-    go j h (no x) (no y) (no z) = t .inside j (omega (arith, z)) h ∙ ap (leave k) (s .behind j (omega (arith, y)))
+    whole : take (length l - used * 13) (drop (used * 13) l) ≡ drop (used * 13) l
+    whole = take-all (length l - used * 13) (drop (used * 13) l) (simp length-drop (omega arith))
 
--- ---- room: where the records fit, they fit once they are moved together
-
-pub roomy : (l m : List ℕ) (used r needed : ℕ) → length (boxesOf l used) + needed ≤ boxesRoom l → Compacted l m used r → Roomy l m used r needed
-roomy l m used r needed h k = record { kept = k .kept; room = room-ok m (r + needed) (omega (arith, k .count, room-still l m (k .kept))); rows = k .rows }
-
--- ---- the writer's loop: the records that are written, and those of the boxes that are left, are together always the same
-
-abbrev pub news : Bool → ℕ → List ℕ → List Slot
-news o k bs = map solid (newBoxes o k bs)
-
-module _ (o : Bool) (k W : ℕ) (l : List ℕ) where
-  -- of i boxes written to the free part t from index at on
-  abbrev pub whole : List ℕ → ℕ → ℕ → List Slot
-  whole t at i = slotsOf t (at + i) ++ news o k (drop i (idsOf W l))
-
-  pub write-none : (t : List ℕ) (at : ℕ) → whole t at 0 ≡ slotsOf t at ++ news o k (idsOf W l)
-  write-none t at = rw (add-zero at)
-
-  pub write-more : (t m : List ℕ) (at i : ℕ) {x : List Slot} → i < countOf W l
-      → ((n : ℕ) → slotsOf m n ≡ set (slotsOf t n) (at + i) (solid (newBox o k (idAt l (i * W)) (drop (i + 1) (idsOf W l)))))
-      → whole t at i ≡ x → whole m at (i + 1) ≡ x
-  write-more t m at i h e w =
-      rw (← add-assoc at i 1, put-end slots t m (at + i) _ e)
-      (append-assoc (slotsOf t (at + i)) _ (news o k (drop (i + 1) (idsOf W l)))
-      ∙ ap (λ (bs : List ℕ). slotsOf t (at + i) ++ news o k bs) (sym (drop-of (ids W) l (countOf W l) i h))
-      ∙ w)
-
-  pub write-all : (t : List ℕ) (at i n : ℕ) {x : List Slot} → n ≤ i → i ≤ n → n ≡ countOf W l → whole t at i ≡ x → slotsOf t (at + n) ≡ x
-  write-all t at i n h g e w =
-      let q : n ≡ i = omega arith in
-      rw q
-      (sym (append-nil (slotsOf t (at + i)))
-      ∙ ap (λ (bs : List ℕ). slotsOf t (at + i) ++ news o k bs) (sym (drop-past (ids W) l (countOf W l) i (omega arith)))
-      ∙ w)
-
--- one list behind the other
-pub write-both : (t m₁ m₂ : List ℕ) (n r : ℕ) (a b : List BoxRec) → slotsOf m₁ n ≡ slotsOf t 0 ++ map solid a → slotsOf m₂ r ≡ slotsOf m₁ n ++ map solid b → slotsOf m₂ r ≡ map solid (a ++ b)
-write-both t m₁ m₂ n r a b e f = f ∙ rw (e, of-none slots t) (sym (map-append solid a b))
-
--- .. in the free part t of words l; z is what stands behind it
-pub write-free : (l t z : List ℕ) (used r : ℕ) (new : List BoxRec) (h : BoxesOk l used) (s : length t ≡ length (freeOf l used)) → z ≡ drop (length l - used * 2) l → BoxesOk t r → slotsOf t r ≡ map solid new
-    → boxesOf (take (used * 8) l ++ (t ++ z)) (used + r) ≡ boxesOf l used ++ new
-unfolding boxesOf
-write-free l t z used r new h s q b e =
-    rw q
-    (ap tidy (free-put l t used h s r b)
-    ∙ tidy-append (slotsOf l used) (slotsOf t r)
-    ∙ ap (λ (rs : List BoxRec). tidy (slotsOf l used) ++ rs) (ap tidy e ∙ tidy-solid new))
-
-pub still-free : (l t z : List ℕ) (used : ℕ) (h : BoxesOk l used) (s : length t ≡ length (freeOf l used)) → z ≡ drop (length l - used * 2) l → Still l (take (used * 8) l ++ (t ++ z)) used
-unfolding boxAt
-still-free l t z used h s q = rw q (record { same = λ j b. ap (λ (x : Slot). x .row) (old-slot l t used h s j b) })
+    none : drop (length l - used * 13) (drop (used * 13) l) ≡ []
+    none = drop-of-length-le (drop (used * 13) l) {i = length l - used * 13} (simp length-drop (omega arith))

@@ -1,165 +1,217 @@
-// The words of the box records: ten for each. Eight stand at the front: the first three words of the box's id, the first three of its owner's,
-// the kind and a flag for a live record. The last words of both ids stand at the back, the first record's last, so that a search for an id
-// goes through few words. Only the functions of this file know the layout, and `write_behind`, which lends the part between.
+// The words of the box records. A slot has thirteen: the box's id, the owner's id, the kind, the slot's link in the index of boxes and in that of
+// owners, and the heads of the bucket with the slot's number in both. Behind the slots stand how many of them are used, and the key of the
+// buckets. Only this file and links.rt know the layout.
 use words::ids::Id;
-use words::ids::put_four;
+use words::ids::load_id;
+use words::ids::put_id;
 use words::ids::same_id;
 ghost use mathlib.Core.Path.{_≡_};
-ghost use Prim.Native.Nat.{_+_};
+ghost use Prim.Native.Nat.{_+_, _*_, _<_};
 ghost use lib.Dec.{eqb};
+ghost use lib.ListN.{set};
 ghost use Rattle.words.specs.Lists.{pick};
 ghost use Rattle.words.specs.Ids.{idOf};
-ghost use Rattle.boxes.specs.Entering.{hidden};
-ghost use Rattle.boxes.specs.Slots.{solid, vacated};
-ghost use Rattle.boxes.specs.Layout.{boxesRoom, BoxesOk, boxOf, slotOf, slotAt, boxAt};
+ghost use Rattle.boxes.specs.Records.{isInput};
+ghost use Rattle.boxes.specs.Lookup.{isEntry};
+ghost use Rattle.boxes.specs.Layout.{boxSlots, boxesRoom, BoxesOk, keyAt, kindAt, slotOf, boxAt, slotAt, slotsUsed};
 ghost use Rattle.boxes.specs.Stores.{Put};
 
-pub struct BoxRow {
-    pub key: Id,
-    pub owner: Id,
-    pub out: bool,
-    pub live: bool,
-}
-
-// The kind of a vacated slot. That of an input is 0; any other number is an output's.
+// The kind of a live input is 0 and that of a live output is 1; a hidden input has 3, and a hidden output another number.
 const GONE: u64 = 2;
 
-// How many records the lent area holds.
+const HIDDEN_INPUT: u64 = 3;
+
+const HIDDEN_OUTPUT: u64 = 4;
+
+// How many slots the lent area has.
+pub(crate) fn slots(s: &[u64]) -> usize
+    ensures { λ r. ⌜ r ≡ boxSlots (now (s .entry)) ⌝ }
+{
+    if s.len() < 2 {
+        return 0;
+    }
+    (s.len() - 2) / 13
+}
+
+// How many records it holds. The rest of the slots is slack: records are moved together once in many insertions, however full it is.
 pub fn boxes_room(s: &[u64]) -> usize
     ensures { λ r. ⌜ r ≡ boxesRoom (now (s .entry)) ⌝ }
 {
-    s.len() / 10
+    slots(s) * 4 / 5
+}
+
+fn index_of(x: u64) -> usize
+    ensures { λ r. ⌜ r ≡ x ⌝ }
+{
+    x as usize
+}
+
+fn word_of(x: usize) -> u64
+    ensures { λ r. ⌜ r ≡ x ⌝ }
+{
+    x as u64
 }
 
 // ---- what is read
 
-// The box of the record at index `at`.
-pub fn box_key(s: &[u64], at: usize) -> Id
-    requires { ⌜ BoxesOk (now s) (at + 1) ⌝ }
-    ensures { λ r. ⌜ idOf r ≡ boxAt (now (s .entry)) at .box ⌝ }
+// How many slots are used, of n records. The word may be anything, in words that no start left, and where there are no records it is not read.
+pub(crate) fn slots_used(s: &[u64], n: usize) -> usize
+    requires { ⌜ BoxesOk (now s) n ⌝ }
+    ensures { λ r. ⌜ r ≡ slotsUsed (now (s .entry)) n ⌝ }
 {
-    let n = s.len();
-    Id {
-        a: s[at * 8],
-        b: s[at * 8 + 1],
-        c: s[at * 8 + 2],
-        d: s[n - (at * 2 + 2)],
+    if n == 0 {
+        return 0;
     }
+    let most = slots(s);
+    let used = index_of(s[most * 13]);
+    if used < n {
+        return n;
+    }
+    if most < used {
+        return most;
+    }
+    used
+}
+
+// The id in column `c` of slot `i`: 0 for the box's, 1 for the owner's.
+pub(crate) fn column_id(s: &[u64], c: usize, i: usize) -> Id
+    requires { ⌜ (c < 2) × (i < boxSlots (now s)) ⌝ }
+    ensures { λ r. ⌜ idOf r ≡ keyAt (now (s .entry)) c i ⌝ }
+{
+    load_id(s, i * 13 + c * 4)
+}
+
+pub(crate) fn kind_at(s: &[u64], i: usize) -> u64
+    requires { ⌜ i < boxSlots (now s) ⌝ }
+    ensures { λ r. ⌜ r ≡ kindAt (now (s .entry)) i ⌝ }
+{
+    s[i * 13 + 8]
+}
+
+// The box of the record in slot `i`.
+pub fn box_key(s: &[u64], i: usize) -> Id
+    requires { ⌜ i < boxSlots (now s) ⌝ }
+    ensures { λ r. ⌜ idOf r ≡ boxAt (now (s .entry)) i .box ⌝ }
+{
+    column_id(s, 0, i)
 }
 
 // Its owner.
-pub fn box_owner(s: &[u64], at: usize) -> Id
-    requires { ⌜ BoxesOk (now s) (at + 1) ⌝ }
-    ensures { λ r. ⌜ idOf r ≡ boxAt (now (s .entry)) at .owner ⌝ }
+pub fn box_owner(s: &[u64], i: usize) -> Id
+    requires { ⌜ i < boxSlots (now s) ⌝ }
+    ensures { λ r. ⌜ idOf r ≡ boxAt (now (s .entry)) i .owner ⌝ }
 {
-    let n = s.len();
-    Id {
-        a: s[at * 8 + 3],
-        b: s[at * 8 + 4],
-        c: s[at * 8 + 5],
-        d: s[n - (at * 2 + 1)],
-    }
-}
-
-// Whether it is of a box.
-pub fn is_box(s: &[u64], at: usize, key: Id) -> bool
-    requires { ⌜ BoxesOk (now s) (at + 1) ⌝ }
-    ensures { λ r. ⌜ r ≡ eqb (boxAt (now (s .entry)) at .box) (idOf key) ⌝ }
-{
-    same_id(box_key(s, at), key)
-}
-
-// Whether a transaction owns it.
-pub fn is_owner(s: &[u64], at: usize, owner: Id) -> bool
-    requires { ⌜ BoxesOk (now s) (at + 1) ⌝ }
-    ensures { λ r. ⌜ r ≡ eqb (boxAt (now (s .entry)) at .owner) (idOf owner) ⌝ }
-{
-    same_id(box_owner(s, at), owner)
+    column_id(s, 1, i)
 }
 
 // Whether it is an output of its owner.
-pub fn box_out(s: &[u64], at: usize) -> bool
-    requires { ⌜ BoxesOk (now s) (at + 1) ⌝ }
-    ensures { λ r. ⌜ r ≡ boxAt (now (s .entry)) at .out ⌝ }
+pub fn box_out(s: &[u64], i: usize) -> bool
+    requires { ⌜ i < boxSlots (now s) ⌝ }
+    ensures { λ r. ⌜ r ≡ boxAt (now (s .entry)) i .out ⌝ }
 {
-    s[at * 8 + 6] != 0
-}
-
-// Whether it is the index's entry for its box.
-pub fn box_live(s: &[u64], at: usize) -> bool
-    requires { ⌜ BoxesOk (now s) (at + 1) ⌝ }
-    ensures { λ r. ⌜ r ≡ boxAt (now (s .entry)) at .live ⌝ }
-{
-    if s[at * 8 + 6] == GONE {
+    let kind = kind_at(s, i);
+    if kind == 0 {
         return false;
     }
-    s[at * 8 + 7] != 0
+    kind != HIDDEN_INPUT
 }
 
-// Whether the slot at index `at` was vacated.
-pub(crate) fn is_gone(s: &[u64], at: usize) -> bool
-    requires { ⌜ BoxesOk (now s) (at + 1) ⌝ }
-    ensures { λ r. ⌜ r ≡ slotAt (now (s .entry)) at .gone ⌝ }
+// Whether the slot was vacated.
+pub(crate) fn is_gone(s: &[u64], i: usize) -> bool
+    requires { ⌜ i < boxSlots (now s) ⌝ }
+    ensures { λ r. ⌜ r ≡ slotAt (now (s .entry)) i .gone ⌝ }
 {
-    s[at * 8 + 6] == GONE
+    kind_at(s, i) == GONE
+}
+
+// Whether a transaction owns the record.
+pub(crate) fn is_owner(s: &[u64], i: usize, owner: Id) -> bool
+    requires { ⌜ i < boxSlots (now s) ⌝ }
+    ensures { λ r. ⌜ r ≡ eqb (boxAt (now (s .entry)) i .owner) (idOf owner) ⌝ }
+{
+    same_id(box_owner(s, i), owner)
+}
+
+// Whether it is an input of the transaction.
+pub(crate) fn is_input(s: &[u64], i: usize, owner: Id) -> bool
+    requires { ⌜ i < boxSlots (now s) ⌝ }
+    ensures { λ r. ⌜ r ≡ isInput (idOf owner) (boxAt (now (s .entry)) i) ⌝ }
+{
+    if !is_owner(s, i, owner) {
+        return false;
+    }
+    !box_out(s, i)
+}
+
+// The kind of a live record.
+pub(crate) fn live_kind(out: bool) -> u64
+    ensures { λ r. ⌜ r ≡ pick out 1 0 ⌝ }
+{
+    if out { 1 } else { 0 }
+}
+
+// Whether it is an index's entry for a box.
+pub(crate) fn is_entry(s: &[u64], i: usize, out: bool, key: Id) -> bool
+    requires { ⌜ i < boxSlots (now s) ⌝ }
+    ensures { λ r. ⌜ r ≡ isEntry out (idOf key) (boxAt (now (s .entry)) i) ⌝ }
+{
+    if kind_at(s, i) != live_kind(out) {
+        return false;
+    }
+    same_id(box_key(s, i), key)
 }
 
 // ---- what is written
 
-fn flag(b: bool) -> u64
-    ensures { λ r. ⌜ r ≡ pick b 1 0 ⌝ }
+// Writes the record of slot `i`. The words of the indexes stay as they are.
+pub(crate) fn put_words(s: &mut [u64], i: usize, key: Id, owner: Id, kind: u64)
+    requires { ⌜ i < boxSlots (now s) ⌝ }
+    ensures { λ _. ⌜ Put (now (s .entry)) (now (s .exit)) i (slotOf (idOf key) (idOf owner) kind) ⌝ }
 {
-    if b { 1 } else { 0 }
+    let p = i * 13;
+    put_id(s, p, key);
+    put_id(s, p + 4, owner);
+    s[p + 8] = kind;
 }
 
-fn put_words(s: &mut [u64], at: usize, key: Id, owner: Id, kind: u64, live: u64)
-    requires { ⌜ BoxesOk (now s) (at + 1) ⌝ }
-    ensures { λ _. ⌜ Put (now (s .entry)) (now (s .exit)) at (slotOf (idOf key) (idOf owner) kind live) ⌝ }
-{
-    let n = s.len();
-    let p = at * 8;
-    put_four(s, p, key.a, key.b, key.c, owner.a);
-    put_four(s, p + 4, owner.b, owner.c, kind, live);
-    s[n - (at * 2 + 2)] = key.d;
-    s[n - (at * 2 + 1)] = owner.d;
-}
-
-// Writes the record at index `at`.
-pub(crate) fn store_box(s: &mut [u64], at: usize, b: BoxRow)
-    requires { ⌜ BoxesOk (now s) (at + 1) ⌝ }
-    ensures { λ _. ⌜ Put (now (s .entry)) (now (s .exit)) at (solid (boxOf b)) ⌝ }
-{
-    let key = b.key;
-    let owner = b.owner;
-    put_words(s, at, key, owner, flag(b.out), flag(b.live));
-}
-
-// The slot at `from`, written at `to` too.
+// The record in slot `from`, written to slot `to` too.
 pub(crate) fn move_box(s: &mut [u64], from: usize, to: usize)
-    requires { ⌜ BoxesOk (now s) (from + 1) ⌝ }
-    requires { ⌜ BoxesOk (now s) (to + 1) ⌝ }
+    requires { ⌜ (from < boxSlots (now s)) × (to < boxSlots (now s)) ⌝ }
     ensures { λ _. ⌜ Put (now (s .entry)) (now (s .exit)) to (slotAt (now (s .entry)) from) ⌝ }
 {
-    let key = box_key(s, from);
-    let owner = box_owner(s, from);
-    let p = from * 8;
-    let kind = s[p + 6];
-    let live = s[p + 7];
-    put_words(s, to, key, owner, kind, live);
+    let key = column_id(s, 0, from);
+    let owner = column_id(s, 1, from);
+    let kind = kind_at(s, from);
+    put_words(s, to, key, owner, kind);
 }
 
-// The record at index `at` is no more live.
-pub(crate) fn hide_box(s: &mut [u64], at: usize)
-    requires { ⌜ BoxesOk (now s) (at + 1) ⌝ }
-    ensures { λ _. ⌜ Put (now (s .entry)) (now (s .exit)) at (record { row = hidden (boxAt (now (s .entry)) at); gone = slotAt (now (s .entry)) at .gone }) ⌝ }
+// Slot `i` is free to be used again. It stays in its chains.
+pub(crate) fn vacate_box(s: &mut [u64], i: usize)
+    requires { ⌜ i < boxSlots (now s) ⌝ }
+    ensures { λ _. ⌜ now (s .exit) ≡ set (now (s .entry)) (i * 13 + 8) 2 ⌝ }
 {
-    s[at * 8 + 7] = 0;
+    s[i * 13 + 8] = GONE;
 }
 
-// The slot at index `at` is free to be used again.
-pub(crate) fn vacate_box(s: &mut [u64], at: usize)
-    requires { ⌜ BoxesOk (now s) (at + 1) ⌝ }
-    ensures { λ _. ⌜ Put (now (s .entry)) (now (s .exit)) at (vacated (slotAt (now (s .entry)) at)) ⌝ }
+// The record in slot `i` is no more an index's entry. It stays in its chains.
+pub(crate) fn hide_box(s: &mut [u64], i: usize, out: bool)
+    requires { ⌜ i < boxSlots (now s) ⌝ }
+    ensures { λ _. ⌜ now (s .exit) ≡ set (now (s .entry)) (i * 13 + 8) (pick out 4 3) ⌝ }
 {
-    s[at * 8 + 6] = GONE;
+    if out {
+        s[i * 13 + 8] = HIDDEN_OUTPUT;
+    } else {
+        s[i * 13 + 8] = HIDDEN_INPUT;
+    }
+}
+
+// So many slots are used.
+pub(crate) fn put_used(s: &mut [u64], used: usize)
+    ensures { λ _. ⌜ now (s .exit) ≡ set (now (s .entry)) (boxSlots (now (s .entry)) * 13) used ⌝ }
+{
+    let at = slots(s) * 13;
+    let w = word_of(used);
+    if at < s.len() {
+        s[at] = w;
+    }
 }

@@ -1,6 +1,6 @@
 -- Laws of the tests: how a chain of them is answered, and what the code's tests say where they are not word for word the definitions'.
 use Prim.Native.Nat.{ℕ, _+_, _≤_, _<_}
-use mathlib.Core.Path.{_≡_, refl, sym, ap, _∙_}
+use mathlib.Core.Path.{_≡_, refl, sym, _∙_}
 use mathlib.Core.Bool.{Bool, true, false, not, _&&_}
 use mathlib.Core.List.{List}
 use native.Mathlib.Omega.{arith}
@@ -21,6 +21,10 @@ stops m n e h = e ∙ sym (no _ _ _ (ne-eqb m 0 (λ z. h (e ∙ z))))
 
 pub goes : (m n : ℕ) {r : ℕ} → r ≡ m → r ≡ 0 → first m n ≡ n
 goes m n e h = yes _ _ _ (eq-eqb m 0 (sym e ∙ h))
+
+-- a test that is both passed and failed
+pub neither : {A : Type 0} {b : Bool} → b ≡ false → b ≡ true → A
+neither p q = let z : _≡_ {A = ℕ} 0 1 = cc in absurd (omega arith)
 
 -- ---- single tests
 

@@ -3,3 +3,4 @@ pub mod Laws
 pub mod Passed
 pub mod Edges
 pub mod Exactly
+pub mod Numbers

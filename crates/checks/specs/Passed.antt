@@ -21,7 +21,8 @@ use Rattle.peers.specs.declared.Standing.{Standing}
 use Rattle.entries.specs.Entries.{Entry, pooled}
 use Rattle.entries.specs.Layout.{entriesOf, entriesRoom}
 use Rattle.boxes.specs.Layout.{boxesRoom}
-use Rattle.pool.specs.Pool.{tablesOf, PoolFits, Room}
+use Rattle.boxes.specs.Index.{BoxesKept}
+use Rattle.pool.specs.Pool.{Tables, tablesOf, PoolFits, Room}
 use Rattle.pool.specs.Laws.{room-left}
 use Rattle.checks.specs.Checks.{dear, remote, first, callRefusal, peerRefusal, stateRefusal, listRefusal, refusalOf}
 
@@ -40,7 +41,6 @@ pub record Passed (most : ℕ) (e b : List ℕ) (st : Mempool) (room : ℕ) (at 
   pub size : a .size ≤ 98304
   pub fee : feeOf outs ≤ cap
   pub cost : (c : ℕ) → a .verdict ≡ Valid c → c < 4294967296
-  pub new : pooled (idOf (a .id)) (entriesOf e (st .counts .pooled)) ≡ false
   pub welcome : remote (a .source) ≡ true → Welcome st at
   pub few : records 5 ins ≤ most
   pub free : Room e b (st .counts) (records 5 ins + records 7 outs)
@@ -97,46 +97,63 @@ module _ (st : Mempool) (room : ℕ) (a : Submission) (ins outs : List ℕ) wher
         cost = u .0;
       }
 
-module _ (st : Mempool) (rows : List Held) (es : List Entry) (at : Standing) (a : Submission) where
-  greeted : peerRefusal st at ≡ 0 → Welcome st at
-  unfolding peerRefusal
-  greeted e =
-      let p = passes _ 24 _ tt e in
-      let q = passes _ 25 _ tt (p .1) in
-      let r = passes _ 26 _ tt (q .1) in
-      record { block = leb-false _ _ (p .0); peer = q .0; place = r .0 }
+pub greeted : (st : Mempool) (at : Standing) → peerRefusal st at ≡ 0 → Welcome st at
+unfolding peerRefusal
+greeted st at e =
+    let p = passes _ 24 _ tt e in
+    let q = passes _ 25 _ tt (p .1) in
+    let r = passes _ 26 _ tt (q .1) in
+    record { block = leb-false _ _ (p .0); peer = q .0; place = r .0 }
 
+module _ (st : Mempool) (rows : List Held) (es : List Entry) (at : Standing) (a : Submission) where
   unopposed : stateRefusal st rows es at a ≡ 0 → (pooled (idOf (a .id)) es ≡ false) × (remote (a .source) ≡ true → Welcome st at)
   unfolding stateRefusal
   unopposed e =
       let p = passes (held (st .config .«invalidation_ttl») (a .time) (idOf (a .id)) rows) 22 _ tt e in
       let q = passes _ 23 _ tt (p .1) in
-      (q .0, λ r. greeted (sym (yes _ _ _ r) ∙ q .1))
+      (q .0, λ r. greeted st at (sym (yes _ _ _ r) ∙ q .1))
 
-pub passed : (most : ℕ) (e b : List ℕ) (st : Mempool) (room : ℕ) (rows : List Held) (at : Standing) (a : Submission) (ins outs : List ℕ)
-    → PoolFits e b (st .counts) → refusalOf most (entriesRoom e) (boxesRoom b) st room (tablesOf e b (st .counts)) rows at a ins outs ≡ 0 → Passed most e b st room at a ins outs
-unfolding refusalOf listRefusal
-passed most e b st room rows at a ins outs f h =
-    let p = both-zero _ _ h in
-    let q = both-zero _ _ (p .1) in
-    let k = called st room a ins outs (p .0) in
-    let l = both-true _ _ (k .lists) in
-    let s = unopposed st rows (entriesOf e (st .counts .pooled)) at a (q .0) in
-    let t = passes _ 7 _ tt (q .1) in
-    let u = passes _ 27 _ tt (t .1) in
+-- by what each of the three chains gave, on any words
+pub passed-by : (most : ℕ) (e b : List ℕ) (st : Mempool) (room : ℕ) (at : Standing) (a : Submission) (ins outs : List ℕ)
+    → callRefusal st room a ins outs ≡ 0 → (remote (a .source) ≡ true → Welcome st at) → records 5 ins ≤ most → Room e b (st .counts) (records 5 ins + records 7 outs)
+    → Passed most e b st room at a ins outs
+passed-by most e b st room at a ins outs p w l f =
+    let k = called st room a ins outs p in
+    let h = both-true _ _ (k .lists) in
     record {
       closed = k .closed;
-      inputs-whole = l .0;
-      outputs-whole = l .1;
+      inputs-whole = h .0;
+      outputs-whole = h .1;
       answer = k .answer;
       size = k .size;
       fee = k .fee;
       cost = cheap (a .verdict) (k .cost);
-      new = s .0;
-      welcome = s .1;
-      few = ltb-false _ _ (t .0);
-      free = room-left e b (st .counts) _ f (u .0);
+      welcome = w;
+      few = l;
+      free = f;
     }
+
+-- .. and where the box records are counted right
+pub passed : (most : ℕ) (e b : List ℕ) (st : Mempool) (room : ℕ) (rows : List Held) (at : Standing) (a : Submission) (ins outs : List ℕ)
+    → PoolFits e b (st .counts) → BoxesKept b (st .counts .records) → refusalOf most (entriesRoom e) (boxesRoom b) st room (tablesOf e b (st .counts)) rows at a ins outs ≡ 0
+    → Passed most e b st room at a ins outs
+unfolding refusalOf listRefusal
+passed most e b st room rows at a ins outs f c h =
+    let p = both-zero _ _ h in
+    let q = both-zero _ _ (p .1) in
+    let s = unopposed st rows (entriesOf e (st .counts .pooled)) at a (q .0) in
+    let t = passes _ 7 _ tt (q .1) in
+    let u = passes _ 27 _ tt (t .1) in
+    passed-by most e b st room at a ins outs (p .0) (s .1) (ltb-false _ _ (t .0)) (room-left e b (st .counts) _ f c (u .0))
+
+-- what no test refuses is not pooled
+pub unpooled : (most E R : ℕ) (st : Mempool) (room : ℕ) (t : Tables) (rows : List Held) (at : Standing) (a : Submission) (ins outs : List ℕ)
+    → refusalOf most E R st room t rows at a ins outs ≡ 0 → pooled (idOf (a .id)) (t .entries) ≡ false
+unfolding refusalOf
+unpooled most E R st room t rows at a ins outs h =
+    let p = both-zero (callRefusal st room a ins outs) (first (stateRefusal st rows (t .entries) at a) (listRefusal most E R t a ins outs)) h in
+    let q = both-zero (stateRefusal st rows (t .entries) at a) (listRefusal most E R t a ins outs) (p .1) in
+    unopposed st rows (t .entries) at a (q .0) .0
 
 -- so the fee is the sum that `extract_fee` gives
 pub fee-sum : (outs : List ℕ) → feeOf outs ≤ cap → feeSum outs ≡ Sum (feeOf outs)

@@ -16,17 +16,22 @@ use pool_types::Source;
 use pool_types::Submission;
 use pool_types::Verdict;
 ghost use mathlib.Core.Path.{_≡_};
-ghost use mathlib.Core.Bool.{_&&_};
-ghost use Prim.Native.Nat.{_+_};
+ghost use mathlib.Core.Bool.{true, false, _&&_};
+ghost use mathlib.Core.List.{_∷_};
+ghost use Prim.Native.Nat.{_+_, _≤_};
 ghost use lib.Dec.{ltb};
 ghost use Rattle.words.specs.Sums.{cap};
 ghost use Rattle.arguments.specs.Arguments.{whole, records, maxInputs, feeOf, heightKey, aheadOf};
-ghost use Rattle.expiring_cache.specs.Layout.{CacheOk, cacheOf};
-ghost use Rattle.entries.specs.Layout.{EntriesOk, entriesOf, entriesRoom};
+ghost use Rattle.expiring_cache.specs.Layout.{CacheOk, CacheKept, cacheOf};
+ghost use Rattle.entries.specs.Layout.{EntriesOk, EntriesKept, entriesOf, entriesRoom};
 ghost use Rattle.boxes.specs.Layout.{boxesRoom};
-ghost use Rattle.pool.specs.Pool.{PoolFits, tablesOf, noRoom};
+ghost use Rattle.boxes.specs.Index.{BoxesKept};
+ghost use Rattle.boxes.specs.Among.{among};
+ghost use Rattle.pool.specs.Pool.{PoolFits, Room, tablesOf, noRoom};
 ghost use Rattle.checks.specs.Checks.{dear, remote, callRefusal, peerRefusal, stateRefusal, listRefusal, refusalOf};
-ghost use Rattle.store.specs.Fits.{Testable};
+ghost use Rattle.checks.specs.Passed.{Welcome, Passed};
+ghost use Rattle.checks.specs.Numbers.{refusals};
+ghost use Rattle.store.specs.Fits.{Testable, Indexed};
 
 // The greatest size.
 const MAX_TX_SIZE: u64 = 98304;
@@ -139,7 +144,10 @@ fn check_state(
 ) -> u64
     requires { ⌜ EntriesOk (now entries) (mempool .counts .pooled) ⌝ }
     requires { ⌜ CacheOk (now cache) (mempool .cached) ⌝ }
-    ensures { λ r. ⌜ r ≡ stateRefusal mempool (cacheOf (now (cache .entry)) (mempool .cached)) (entriesOf (now (entries .entry)) (mempool .counts .pooled)) standing sub ⌝ }
+    ensures { λ r. ⌜ among r (0 ∷ refusals) ≡ true ⌝ }
+    ensures { λ r. ⌜ (r ≡ 0 → remote (sub .source) ≡ true → Welcome mempool standing) ⌝ }
+    ensures { λ r. ⌜ (EntriesKept (now (entries .entry)) (mempool .counts .pooled) → CacheKept (now (cache .entry)) (mempool .cached)
+        → r ≡ stateRefusal mempool (cacheOf (now (cache .entry)) (mempool .cached)) (entriesOf (now (entries .entry)) (mempool .counts .pooled)) standing sub) ⌝ }
 {
     if contains(
         cache,
@@ -178,7 +186,8 @@ fn lacks_room(
     outputs: &[u64],
 ) -> bool
     requires { ⌜ PoolFits (now entries) (now boxes) counts ⌝ }
-    ensures { λ r. ⌜ r ≡ noRoom (entriesRoom (now (entries .entry))) (boxesRoom (now (boxes .entry))) (tablesOf (now (entries .entry)) (now (boxes .entry)) counts) (records 5 (now (inputs .entry)) + records 7 (now (outputs .entry))) ⌝ }
+    ensures { λ r. ⌜ (r ≡ false → Room (now (entries .entry)) (now (boxes .entry)) counts (records 5 (now (inputs .entry)) + records 7 (now (outputs .entry)))) ⌝ }
+    ensures { λ r. ⌜ (BoxesKept (now (boxes .entry)) (counts .records) → r ≡ noRoom (entriesRoom (now (entries .entry))) (boxesRoom (now (boxes .entry))) (tablesOf (now (entries .entry)) (now (boxes .entry)) counts) (records 5 (now (inputs .entry)) + records 7 (now (outputs .entry)))) ⌝ }
 {
     let needed = count_records(inputs, 5) + count_records(outputs, 7);
     !room_for(entries, boxes, counts, needed)
@@ -194,7 +203,9 @@ fn check_lists(
     outputs: &[u64],
 ) -> u64
     requires { ⌜ PoolFits (now entries) (now boxes) (mempool .counts) ⌝ }
-    ensures { λ r. ⌜ r ≡ listRefusal maxInputs (entriesRoom (now (entries .entry))) (boxesRoom (now (boxes .entry))) (tablesOf (now (entries .entry)) (now (boxes .entry)) (mempool .counts)) sub (now (inputs .entry)) (now (outputs .entry)) ⌝ }
+    ensures { λ r. ⌜ among r (0 ∷ refusals) ≡ true ⌝ }
+    ensures { λ r. ⌜ (r ≡ 0 → (records 5 (now (inputs .entry)) ≤ maxInputs) × Room (now (entries .entry)) (now (boxes .entry)) (mempool .counts) (records 5 (now (inputs .entry)) + records 7 (now (outputs .entry)))) ⌝ }
+    ensures { λ r. ⌜ (BoxesKept (now (boxes .entry)) (mempool .counts .records) → r ≡ listRefusal maxInputs (entriesRoom (now (entries .entry))) (boxesRoom (now (boxes .entry))) (tablesOf (now (entries .entry)) (now (boxes .entry)) (mempool .counts)) sub (now (inputs .entry)) (now (outputs .entry))) ⌝ }
 {
     if MAX_TX_INPUTS < count_records(inputs, 5) {
         return 7;
@@ -214,7 +225,7 @@ fn check_lists(
 
 // ---- all of them
 
-// Every test up to the verdict, in document 01's order.
+// Every test up to the verdict, in document 01's order. On any words it gives one of its numbers, and what it lets pass is as the later steps need it.
 pub fn check(
     entries: &[u64],
     boxes: &[u64],
@@ -227,7 +238,9 @@ pub fn check(
     outputs: &[u64],
 ) -> u64
     requires { ⌜ Testable (now entries) (now boxes) (now cache) mempool ⌝ }
-    ensures { λ r. ⌜ r ≡ refusalOf maxInputs (entriesRoom (now (entries .entry))) (boxesRoom (now (boxes .entry))) mempool room (tablesOf (now (entries .entry)) (now (boxes .entry)) (mempool .counts)) (cacheOf (now (cache .entry)) (mempool .cached)) standing sub (now (inputs .entry)) (now (outputs .entry)) ⌝ }
+    ensures { λ r. ⌜ among r (0 ∷ refusals) ≡ true ⌝ }
+    ensures { λ r. ⌜ (r ≡ 0 → Passed maxInputs (now (entries .entry)) (now (boxes .entry)) mempool room standing sub (now (inputs .entry)) (now (outputs .entry))) ⌝ }
+    ensures { λ r. ⌜ (Indexed (now (entries .entry)) (now (boxes .entry)) (now (cache .entry)) mempool → r ≡ refusalOf maxInputs (entriesRoom (now (entries .entry))) (boxesRoom (now (boxes .entry))) mempool room (tablesOf (now (entries .entry)) (now (boxes .entry)) (mempool .counts)) (cacheOf (now (cache .entry)) (mempool .cached)) standing sub (now (inputs .entry)) (now (outputs .entry))) ⌝ }
 {
     let call = check_call(mempool, room, sub, inputs, outputs);
     if call != 0 {

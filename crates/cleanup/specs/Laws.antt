@@ -20,7 +20,7 @@ use Rattle.pool_types.specs.declared.AnswerOutcome.the-variants.{InputMissing, 
 use Rattle.pool_types.specs.declared.Verdict.{Verdict}
 use Rattle.pool_types.specs.declared.Verdict.the-variants.{Valid, Invalid, Absent}
 use Rattle.pool_types.specs.Outcomes.{Outcome, candidate, ended, openedOf, nextOf, answeredOf}
-use Rattle.expiring_cache.specs.Layout.{room-still}
+use Rattle.expiring_cache.specs.Layout.{CacheKept, room-still}
 use Rattle.peers.specs.declared.PeerRecord.{PeerRecord}
 use Rattle.entries.specs.Entries.{Entry, placeOf, stamped}
 use Rattle.entries.specs.Layout.{entryAt, entriesOf, entriesRoom, entries, room-ok}
@@ -29,14 +29,16 @@ use Rattle.entries.specs.Laws.{at-place, no-place, place-fits}
 use Rattle.entries.specs.declared.table.Place.{Place}
 use Rattle.entries.specs.declared.table.Place.the-variants.{At, Nowhere}
 use Rattle.entries.specs.declared.fields.ValidationCost.the-variants.{Measured}
+use Rattle.boxes.specs.Among.{among, among-cons}
 use Rattle.boxes.specs.Records.{index, inputsOf}
 use Rattle.boxes.specs.Layout.{BoxesOk, boxesOf}
+use Rattle.boxes.specs.Index.{BoxesKept}
 use Rattle.indexes.specs.Resolved.{allResolved, flagged}
-use Rattle.pool.specs.Pool.{Tables, tablesOf, PoolFits, Left, removeTx}
+use Rattle.pool.specs.Pool.{Tables, tablesOf, PoolFits, PoolKept, Left, removeTx}
 use Rattle.store.specs.World.{World, world, worldOf}
-use Rattle.store.specs.Fits.{Fits}
+use Rattle.store.specs.Fits.{Kept}
 use Rattle.store.specs.Spares.{Lent, Spares}
-use Rattle.returns.specs.Post.{recounted, Cached}
+use Rattle.returns.specs.Post.{recounted, recached, Cached}
 use Rattle.cleanup.specs.Passes.{PassNow, passOf, PassResult, still, opened, nexted, sought, offered, firstDue, measured, previousCost, answeredWith, answerRefusal, lacksInput, weighed, answered}
 use Rattle.cleanup.specs.Post.{PassPost, repassed, PassOnly, noneOut, answerCode, Stepped}
 use Rattle.cleanup.specs.Numbers.{ofAnswer}
@@ -59,14 +61,19 @@ only-as : {st r : Mempool} {o : Outcome} {s t : PassResult} → s ≡ t → Pass
 only-as q h = rw q h
 
 -- nothing changed
-post-still : (e b k : List ℕ) (ys : List PeerRecord) (st : Mempool) (o n : Outcome) → Fits e b k ys st → o ≡ n → PassPost st st o e b k ys (still n (worldOf e b k ys st) (passOf (st .pass)))
-post-still e b k ys st o n f q = record { fits = f; config = refl; outcome = q; world = refl; pass = refl }
+post-still : (e b k : List ℕ) (ys : List PeerRecord) (st : Mempool) (o n : Outcome) → Kept e b k ys st → o ≡ n → PassPost st st o e b k ys (still n (worldOf e b k ys st) (passOf (st .pass)))
+post-still e b k ys st o n f q = record { kept = f; config = refl; outcome = q; world = refl; pass = refl }
 
 -- the pass alone is new
-only-post : {st r : Mempool} {o : Outcome} {s : PassResult} (e b k : List ℕ) (ys : List PeerRecord) → Fits e b k ys st → s .world ≡ worldOf e b k ys st → PassOnly st r o s → PassPost st r o e b k ys s
+only-post : {st r : Mempool} {o : Outcome} {s : PassResult} (e b k : List ℕ) (ys : List PeerRecord) → Kept e b k ys st → s .world ≡ worldOf e b k ys st → PassOnly st r o s → PassPost st r o e b k ys s
 only-post {st} {r} {o} {s} e b k ys f w h =
     record {
-      fits = subst (λ (x : Mempool). Fits e b k ys x) (sym (h .state)) (record { tests = record { pool = f .tests .pool; cache = f .tests .cache }; keeps = f .keeps; records = f .records; used = f .used });
+      kept =
+          subst (λ (x : Mempool). Kept e b k ys x) (sym (h .state))
+          (record {
+            fits = record { tests = record { pool = f .fits .tests .pool; cache = f .fits .tests .cache }; keeps = f .fits .keeps; records = f .fits .records; used = f .fits .used };
+            indexed = record { pool = f .indexed .pool; cache = f .indexed .cache };
+          });
       config = ap (λ (x : Mempool). x .config) (h .state);
       outcome = h .outcome;
       world = ap (worldOf e b k ys) (h .state) ∙ sym w;
@@ -91,7 +98,7 @@ module _ (st : Mempool) (time limit preheader : ℕ) where
 
   -- whatever it answers, the store stays
   pub open-post : {r : Mempool} {o : Outcome} → ((w : World) → PassOnly st r o (opened w (passOf (st .pass)) time limit preheader))
-      → (e b k : List ℕ) (ys : List PeerRecord) → Fits e b k ys st → PassPost st r o e b k ys (opened (worldOf e b k ys st) (passOf (st .pass)) time limit preheader)
+      → (e b k : List ℕ) (ys : List PeerRecord) → Kept e b k ys st → PassPost st r o e b k ys (opened (worldOf e b k ys st) (passOf (st .pass)) time limit preheader)
   unfolding opened
   open-post h e b k ys f = only-post e b k ys f (pick-world (st .pass .open) _ _ _ refl refl) (h (worldOf e b k ys st))
 
@@ -142,17 +149,17 @@ module _ (st : Mempool) where
   end-done x z w = record { state = refl; outcome = refl; pass = rw z }
 
   -- none is open
-  pub next-closed : not (st .pass .open) ≡ true → (e b k : List ℕ) (ys : List PeerRecord) → Fits e b k ys st
+  pub next-closed : not (st .pass .open) ≡ true → (e b k : List ℕ) (ys : List PeerRecord) → Kept e b k ys st
       → PassPost st st (nextOf (NoPass 21)) e b k ys (nexted (st .config) (worldOf e b k ys st) (passOf (st .pass)))
   unfolding nexted nextOf
   next-closed h e b k ys f = post-as (yes _ _ _ h) (post-still e b k ys st _ _ f refl)
 
   -- the count does not fit
-  pub next-unfit : {A : Type 0} (e b k : List ℕ) (ys : List PeerRecord) → entriesRoom e < st .counts .pooled → Fits e b k ys st → A
-  next-unfit e b k ys h f = absurd (omega (arith, room-ok e (st .counts .pooled) (f .tests .pool .entries)))
+  pub next-unfit : {A : Type 0} (e b k : List ℕ) (ys : List PeerRecord) → entriesRoom e < st .counts .pooled → Kept e b k ys st → A
+  next-unfit e b k ys h f = absurd (omega (arith, room-ok e (st .counts .pooled) (f .fits .tests .pool .entries)))
 
   -- a candidate is out
-  pub next-again : not (st .pass .open) ≡ false → st .pass .out ≡ true → (e b k : List ℕ) (ys : List PeerRecord) → Fits e b k ys st → {o : Outcome} → o ≡ candidate (idOf (st .pass .candidate))
+  pub next-again : not (st .pass .open) ≡ false → st .pass .out ≡ true → (e b k : List ℕ) (ys : List PeerRecord) → Kept e b k ys st → {o : Outcome} → o ≡ candidate (idOf (st .pass .candidate))
       → PassPost st st o e b k ys (nexted (st .config) (worldOf e b k ys st) (passOf (st .pass)))
   unfolding nexted
   next-again h i e b k ys f q = post-as (no _ _ _ h ∙ yes _ _ _ i) (post-still e b k ys st _ _ f q)
@@ -172,12 +179,12 @@ module _ (st : Mempool) where
         either false ks = refl
 
     pub next-found : (j x : ℕ) → r ≡ At j → x ≡ entryAt e j .id → {m : Mempool} {o : Outcome} → ((w : World) → PassOnly st m o (offered (x ∷ []) w (passOf (st .pass))))
-        → (b k : List ℕ) (ys : List PeerRecord) → Fits e b k ys st → PassPost st m o e b k ys (nexted (st .config) (worldOf e b k ys st) (passOf (st .pass)))
+        → (b k : List ℕ) (ys : List PeerRecord) → Kept e b k ys st → PassPost st m o e b k ys (nexted (st .config) (worldOf e b k ys st) (passOf (st .pass)))
     unfolding offered
     next-found j x q y g b k ys f = post-as (searched b k ys (x ∷ []) (rw (q, y))) (only-post e b k ys f refl (g (worldOf e b k ys st)))
 
     pub next-ended : r ≡ Nowhere → {m : Mempool} {o : Outcome} → ((w : World) → PassOnly st m o (offered [] w (passOf (st .pass))))
-        → (b k : List ℕ) (ys : List PeerRecord) → Fits e b k ys st → PassPost st m o e b k ys (nexted (st .config) (worldOf e b k ys st) (passOf (st .pass)))
+        → (b k : List ℕ) (ys : List PeerRecord) → Kept e b k ys st → PassPost st m o e b k ys (nexted (st .config) (worldOf e b k ys st) (passOf (st .pass)))
     unfolding offered
     next-ended q g b k ys f = post-as (searched b k ys [] (rw q)) (only-post e b k ys f refl (g (worldOf e b k ys st)))
 
@@ -196,109 +203,129 @@ module _ (st : Mempool) (c : ℕ) (q : Pass) (a : passOf q ≡ answeredWith c (p
       → Stepped e' b' st (repassed (recounted st n) q) (removeTx (idOf (st .pass .candidate)) (tablesOf e b (st .counts))) (answeredWith d (passOf (st .pass)))
   stepped-out e b l z = record { state = refl; left = l; pass = rw (← z) a }
 
-  pub stepped-stamp : {e e' : List ℕ} {es : List Entry} → LeftEntries e e' (st .counts .pooled) es → (b : List ℕ) → BoxesOk b (st .counts .records)
+  pub stepped-stamp : {e e' : List ℕ} {es : List Entry} → LeftEntries e e' (st .counts .pooled) es → (b : List ℕ) → BoxesOk b (st .counts .records) → BoxesKept b (st .counts .records)
       → Stepped e' b st (repassed st q) (record { entries = es; boxes = boxesOf b (st .counts .records) }) (answeredWith c (passOf (st .pass)))
-  stepped-stamp l b h = record { state = refl; left = record { fits = record { entries = l .ok; boxes = h }; tables = rw (l .rows) }; pass = a }
+  stepped-stamp l b h k =
+      record {
+        state = refl;
+        left = record { fits = record { entries = l .ok; boxes = h }; kept = record { entries = l .kept; boxes = k }; tables = rw (l .rows) };
+        pass = a;
+      }
 
 -- ---- answer: what the steps come to
 
 -- entries, boxes and the pass are new
-stepped-post : {st r : Mempool} {o n : Outcome} {e b k e' b' : List ℕ} {ys : List PeerRecord} {t : Tables} {q : PassNow} → Fits e b k ys st → Stepped e' b' st r t q → o ≡ n
+stepped-post : {st r : Mempool} {o n : Outcome} {e b k e' b' : List ℕ} {ys : List PeerRecord} {t : Tables} {q : PassNow} → Kept e b k ys st → Stepped e' b' st r t q → o ≡ n
     → PassPost st r o e' b' k ys (record { outcome = n; world = world t (worldOf e b k ys st .cache) (worldOf e b k ys st .sum) (worldOf e b k ys st .peers); pass = q })
 stepped-post {st} {r} f s z =
     post-with (s .state)
     (record {
-      fits = record { tests = record { pool = s .left .fits; cache = f .tests .cache }; keeps = f .keeps; records = f .records; used = f .used };
+      kept =
+          record {
+            fits = record { tests = record { pool = s .left .fits; cache = f .fits .tests .cache }; keeps = f .fits .keeps; records = f .fits .records; used = f .fits .used };
+            indexed = record { pool = s .left .kept; cache = f .indexed .cache };
+          };
       config = refl;
       outcome = z;
       world = rw (s .left .tables);
       pass = s .pass;
     })
 
+-- an id entered the cache: the counts of the pool are as they were
+pub still-fits : (st : Mempool) (e b : List ℕ) {m : Mempool} → m ≡ recached st (m .cached) → PoolFits e b (st .counts) → PoolFits e b (m .counts)
+still-fits st e b w h = subst (λ (x : Mempool). PoolFits e b (x .counts)) (sym w) h
+
 module _ (e b k : List ℕ) (st : Mempool) where
-  pub weigh-absent : (v : Verdict) → v ≡ Absent → (ys : List PeerRecord) → Fits e b k ys st
+  pub weigh-absent : (v : Verdict) → v ≡ Absent → (ys : List PeerRecord) → Kept e b k ys st
       → PassPost st st (answeredOf AnswerNeeded) e b k ys (weighed (st .config) (worldOf e b k ys st) (passOf (st .pass)) v)
   unfolding weighed answeredOf
   weigh-absent v q ys f = post-as (ap (weighed (st .config) (worldOf e b k ys st) (passOf (st .pass))) q) (post-still e b k ys st _ _ f refl)
 
   pub weigh-valid : (v : Verdict) (c : ℕ) → v ≡ Valid c → (e' : List ℕ) (r : Mempool)
-      → ((b : List ℕ) → BoxesOk b (st .counts .records) → Stepped e' b st r
+      → ((b : List ℕ) → BoxesOk b (st .counts .records) → PoolKept e b (st .counts) → Stepped e' b st r
       (record { entries = stamped (idOf (st .pass .candidate)) (Measured c) (st .pass .time) (entriesOf e (st .counts .pooled)); boxes = boxesOf b (st .counts .records) })
       (answeredWith c (passOf (st .pass))))
-      → (ys : List PeerRecord) → Fits e b k ys st → PassPost st r (answeredOf (FoundValid (st .pass .candidate))) e' b k ys (weighed (st .config) (worldOf e b k ys st) (passOf (st .pass)) v)
+      → (ys : List PeerRecord) → Kept e b k ys st → PassPost st r (answeredOf (FoundValid (st .pass .candidate))) e' b k ys (weighed (st .config) (worldOf e b k ys st) (passOf (st .pass)) v)
   unfolding weighed answeredOf
-  weigh-valid v c q e' r s ys f = post-as (ap (weighed (st .config) (worldOf e b k ys st) (passOf (st .pass))) q) (stepped-post f (s b (f .tests .pool .boxes)) refl)
+  weigh-valid v c q e' r s ys f = post-as (ap (weighed (st .config) (worldOf e b k ys st) (passOf (st .pass))) q) (stepped-post f (s b (f .fits .tests .pool .boxes) (f .indexed .pool)) refl)
 
-  module _ (k' : List ℕ) (m : Mempool) (d : Cached k k' st m (st .pass .time) (idOf (st .pass .candidate))) where
-    -- the counts of the pool are as they were
-    pub still-fits : PoolFits e b (st .counts) → PoolFits e b (m .counts)
-    still-fits h = subst (λ (x : Mempool). PoolFits e b (x .counts)) (sym (d .state)) h
-
-    pub weigh-invalid : (v : Verdict) → v ≡ Invalid → (e' b' : List ℕ) (r : Mempool)
-        → Stepped e' b' m r (removeTx (idOf (m .pass .candidate)) (tablesOf e b (m .counts)))
-        (answeredWith (previousCost (found (λ x. x .id) (idOf (m .pass .candidate)) (entriesOf e (m .counts .pooled)))) (passOf (m .pass)))
-        → (ys : List PeerRecord) → Fits e b k ys st → PassPost st r (answeredOf (FoundInvalid (st .pass .candidate))) e' b' k' ys (weighed (st .config) (worldOf e b k ys st) (passOf (st .pass)) v)
+  module _ (m : Mempool) (w : m ≡ recached st (m .cached)) where
+    pub weigh-invalid : (v : Verdict) → v ≡ Invalid → (k' : List ℕ) → (CacheKept k (st .cached) → Cached k k' st m (st .pass .time) (idOf (st .pass .candidate))) → (e' b' : List ℕ) (r : Mempool)
+        → (PoolKept e b (m .counts) → Stepped e' b' m r (removeTx (idOf (m .pass .candidate)) (tablesOf e b (m .counts)))
+        (answeredWith (previousCost (found (λ x. x .id) (idOf (m .pass .candidate)) (entriesOf e (m .counts .pooled)))) (passOf (m .pass))))
+        → (ys : List PeerRecord) → Kept e b k ys st → PassPost st r (answeredOf (FoundInvalid (st .pass .candidate))) e' b' k' ys (weighed (st .config) (worldOf e b k ys st) (passOf (st .pass)) v)
     unfolding weighed answeredOf
-    weigh-invalid v q e' b' r s ys f =
+    weigh-invalid v q k' d e' b' r s ys f =
         post-as (ap (weighed (st .config) (worldOf e b k ys st) (passOf (st .pass))) q)
-        (let z = subst (λ (x : Mempool).
+        (let c = d (f .indexed .cache) in
+        let p : PoolKept e b (m .counts) = subst (λ (x : Mempool). PoolKept e b (x .counts)) (sym w) (f .indexed .pool) in
+        let z = subst (λ (x : Mempool).
         Stepped e' b' x r (removeTx (idOf (x .pass .candidate)) (tablesOf e b (x .counts)))
-        (answeredWith (previousCost (found (λ x. x .id) (idOf (x .pass .candidate)) (entriesOf e (x .counts .pooled)))) (passOf (x .pass)))) (d .state) s in
+        (answeredWith (previousCost (found (λ x. x .id) (idOf (x .pass .candidate)) (entriesOf e (x .counts .pooled)))) (passOf (x .pass)))) (c .state) (s p) in
         post-with (z .state)
         (record {
-          fits = record { tests = record { pool = z .left .fits; cache = d .inserted .ok }; keeps = rw (room-still k k' (d .inserted .size)) (f .keeps); records = f .records; used = f .used };
+          kept =
+              record {
+                fits = record { tests = record { pool = z .left .fits; cache = c .inserted .ok }; keeps = rw (room-still k k' (c .inserted .size)) (f .fits .keeps); records = f .fits .records; used = f .fits .used };
+                indexed = record { pool = z .left .kept; cache = c .inserted .kept };
+              };
           config = refl;
           outcome = refl;
-          world = rw (z .left .tables, d .inserted .rows);
+          world = rw (z .left .tables, c .inserted .rows);
           pass = z .pass;
         }))
 
 -- ---- answer: the tests
 
-module _ (closed : Bool) (m l : ℕ) {n : ℕ} (q : n ≡ answerCode closed m l) where
-  -- with no refusal there is a flag for each input
-  pub answer-flags : n ≡ 0 → m ≡ l
-  unfolding answerCode
-  answer-flags h = go closed (eqb m l) refl (sym q ∙ h)
-    where
-      go : (t u : Bool) → eqb m l ≡ u → _≡_ {A = ℕ} (pick t 21 (pick (not u) 1 0)) 0 → m ≡ l
-      go true u y z = absurd (omega arith)
-      go false true y z = eqb-true m l y
-      go false false y z = absurd (omega arith)
+-- a number is one of this call
+pub answer-numbered : {n : ℕ} → among n (0 ∷ 21 ∷ 1 ∷ []) ≡ true → (n ≡ 0 → ⊥) → ofAnswer (NotAnswered n) ≡ true
+unfolding ofAnswer
+answer-numbered {n} q h = rw (ne-eqb 0 n (λ e. h (sym e))) at (sym (among-cons n 0 (21 ∷ 1 ∷ [])) ∙ q)
 
-  -- a number is one of this call
-  pub answer-numbered : (n ≡ 0 → ⊥) → ofAnswer (NotAnswered n) ≡ true
-  unfolding answerCode ofAnswer
-  answer-numbered h = go closed (eqb m l) q
-    where
-      go : (t u : Bool) → n ≡ pick t 21 (pick (not u) 1 0) → ofAnswer (NotAnswered n) ≡ true
-      go true u y = rw y
-      go false true y = absurd (h y)
-      go false false y = rw y
+-- with no refusal there is a flag for each input
+answer-flags : (closed : Bool) (m l : ℕ) → answerCode closed m l ≡ 0 → m ≡ l
+unfolding answerCode
+answer-flags closed m l h = go closed (eqb m l) refl h
+  where
+    go : (t u : Bool) → eqb m l ≡ u → _≡_ {A = ℕ} (pick t 21 (pick (not u) 1 0)) 0 → m ≡ l
+    go true u y z = absurd (omega arith)
+    go false true y z = eqb-true m l y
+    go false false y z = absurd (omega arith)
 
+-- n is the code of the tests, where the index of the boxes is right
 module _ (e b k : List ℕ) (st : Mempool) (flags : List ℕ) (v : Verdict) {n : ℕ}
-    (q : n ≡ answerCode (noneOut (st .pass)) (length flags) (length (inputsOf (idOf (st .pass .candidate)) (boxesOf b (st .counts .records))))) where
-  pub answer-stopped : (n ≡ 0 → ⊥) → (ys : List PeerRecord) → Fits e b k ys st
+    (q : BoxesKept b (st .counts .records) → n ≡ answerCode (noneOut (st .pass)) (length flags) (length (inputsOf (idOf (st .pass .candidate)) (boxesOf b (st .counts .records))))) where
+  pub answer-stopped : (n ≡ 0 → ⊥) → (ys : List PeerRecord) → Kept e b k ys st
       → PassPost st st (answeredOf (NotAnswered n)) e b k ys (answered (st .config) (worldOf e b k ys st) (passOf (st .pass)) flags v)
   unfolding answered answerRefusal answerCode answeredOf
-  answer-stopped h ys f = rw (← q) (post-as (no _ _ _ (ne-eqb n 0 h)) (post-still e b k ys st _ _ f refl))
+  answer-stopped h ys f = rw (← q (f .indexed .pool .boxes)) (post-as (no _ _ _ (ne-eqb n 0 h)) (post-still e b k ys st _ _ f refl))
 
-  -- an input is found nowhere
-  module _ (h : n ≡ 0) {t : Bool} (z : t ≡ allResolved (index true (boxesOf b (st .counts .records))) (flagged (inputsOf (idOf (st .pass .candidate)) (boxesOf b (st .counts .records))) flags)) where
+  module _ (h : n ≡ 0) {t : Bool}
+      (z : BoxesKept b (st .counts .records) → length flags ≡ length (inputsOf (idOf (st .pass .candidate)) (boxesOf b (st .counts .records)))
+      → t ≡ allResolved (index true (boxesOf b (st .counts .records))) (flagged (inputsOf (idOf (st .pass .candidate)) (boxesOf b (st .counts .records))) flags)) where
+    resolved : BoxesKept b (st .counts .records)
+        → t ≡ allResolved (index true (boxesOf b (st .counts .records))) (flagged (inputsOf (idOf (st .pass .candidate)) (boxesOf b (st .counts .records))) flags)
+    resolved g = z g (answer-flags (noneOut (st .pass)) _ _ (sym (q g) ∙ h))
+
+    -- an input is found nowhere
     pub answer-missing : not t ≡ true → (e' b' : List ℕ) (r : Mempool)
-        → Stepped e' b' st r (removeTx (idOf (st .pass .candidate)) (tablesOf e b (st .counts)))
-        (answeredWith (previousCost (found (λ x. x .id) (idOf (st .pass .candidate)) (entriesOf e (st .counts .pooled)))) (passOf (st .pass)))
-        → (ys : List PeerRecord) → Fits e b k ys st
+        → (PoolKept e b (st .counts) → Stepped e' b' st r (removeTx (idOf (st .pass .candidate)) (tablesOf e b (st .counts)))
+        (answeredWith (previousCost (found (λ x. x .id) (idOf (st .pass .candidate)) (entriesOf e (st .counts .pooled)))) (passOf (st .pass))))
+        → (ys : List PeerRecord) → Kept e b k ys st
         → PassPost st r (answeredOf (InputMissing (st .pass .candidate))) e' b' k ys (answered (st .config) (worldOf e b k ys st) (passOf (st .pass)) flags v)
     unfolding answered answerRefusal answerCode lacksInput answeredOf
-    answer-missing y e' b' r s ys f = rw (← q) (post-as (yes _ _ _ (eq-eqb n 0 h) ∙ yes _ _ _ (ap not (sym z) ∙ y)) (stepped-post f s refl))
+    answer-missing y e' b' r s ys f =
+        let g = f .indexed .pool .boxes in
+        rw (← q g) (post-as (yes _ _ _ (eq-eqb n 0 h) ∙ yes _ _ _ (ap not (sym (resolved g)) ∙ y)) (stepped-post f (s (f .indexed .pool)) refl))
 
     -- all are found
     pub answer-weighed : not t ≡ false → (e' b' k' : List ℕ) (r : Mempool) (o : Outcome)
-        → ((ys : List PeerRecord) → Fits e b k ys st → PassPost st r o e' b' k' ys (weighed (st .config) (worldOf e b k ys st) (passOf (st .pass)) v))
-        → (ys : List PeerRecord) → Fits e b k ys st → PassPost st r o e' b' k' ys (answered (st .config) (worldOf e b k ys st) (passOf (st .pass)) flags v)
+        → ((ys : List PeerRecord) → Kept e b k ys st → PassPost st r o e' b' k' ys (weighed (st .config) (worldOf e b k ys st) (passOf (st .pass)) v))
+        → (ys : List PeerRecord) → Kept e b k ys st → PassPost st r o e' b' k' ys (answered (st .config) (worldOf e b k ys st) (passOf (st .pass)) flags v)
     unfolding answered answerRefusal answerCode lacksInput
-    answer-weighed y e' b' k' r o g ys f = rw (← q) (post-as (yes _ _ _ (eq-eqb n 0 h) ∙ no _ _ _ (ap not (sym z) ∙ y)) (g ys f))
+    answer-weighed y e' b' k' r o g ys f =
+        let i = f .indexed .pool .boxes in
+        rw (← q i) (post-as (yes _ _ _ (eq-eqb n 0 h) ∙ no _ _ _ (ap not (sym (resolved i)) ∙ y)) (g ys f))
 
 -- ---- answer: single tests
 

@@ -14,13 +14,13 @@ use Rattle.peers.specs.declared.PeerRecord.{PeerRecord}
 use Rattle.answers.specs.Answers.{Wrote}
 use Rattle.pool.specs.Pool.{Tables, Left}
 use Rattle.store.specs.World.{World, worldOf, Result}
-use Rattle.store.specs.Fits.{Fits}
+use Rattle.store.specs.Fits.{Kept}
 use Rattle.returns.specs.Post.{recounted}
 use Rattle.cleanup.specs.Passes.{PassNow, passOf, PassResult}
 
 -- from the state st, r was handed back with the outcome o; the words of entries, boxes and cache are now e, b and k, the peer records ys: all as s has it
 pub record PassPost (st r : Mempool) (o : Outcome) (e b k : List ℕ) (ys : List PeerRecord) (s : PassResult) : Type 0 where
-  pub fits : Fits e b k ys r
+  pub kept : Kept e b k ys r
   pub config : r .config ≡ st .config
   pub outcome : o ≡ s .outcome
   pub world : worldOf e b k ys r ≡ s .world

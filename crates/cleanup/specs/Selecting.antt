@@ -20,6 +20,8 @@ use Rattle.entries.specs.Entries.{Entry}
 use Rattle.entries.specs.Layout.{entryAt, entriesOf, entries}
 use Rattle.boxes.specs.Records.{BoxRec, inputsOf}
 use Rattle.boxes.specs.Flat.{idsOf}
+use Rattle.boxes.specs.Layout.{boxesOf}
+use Rattle.boxes.specs.Index.{BoxesKept}
 use Rattle.indexes.specs.Inputs.{allAmong}
 use Rattle.answers.specs.Answers.{Wrote, wrote-nothing, wrote-both}
 use Rattle.pool.specs.Pool.{Tables, tablesOf}
@@ -53,7 +55,6 @@ module _ (cs : List ℕ) (rs : List BoxRec) (e : Entry) (x : ℕ) (z : x ≡ e .
 pub record Selected (l m : List ℕ) (most : ℕ) (cs : List ℕ) (t : Tables) (r : ℕ) : Type 0 where
   pub wrote : Wrote l m 0 (chosen most cs t)
   pub count : r ≡ length (chosen most cs t)
-  pub few : r ≤ length (t .entries)
 
 -- ---- so far
 
@@ -61,13 +62,14 @@ pub record Selected (l m : List ℕ) (most : ℕ) (cs : List ℕ) (t : Tables) (
 abbrev sofar : List ℕ → List BoxRec → List ℕ → ℕ → List ℕ
 sofar cs rs l i = map (λ e. e .id) (keep (sendable cs rs) (entriesOf l i))
 
--- of the first i of N entries those that qualify were written, n of them, and no more than are to be
-pub record Selecting (l₀ l : List ℕ) (most : ℕ) (cs : List ℕ) (rs : List BoxRec) (es : List ℕ) (N i n : ℕ) : Type 0 where
-  pub wrote : Wrote l₀ l 0 (sofar cs rs es i)
-  pub count : n ≡ length (sofar cs rs es i)
+-- of the first i of N entries n were written, and no more than are to be; where the index of the k box records in the words b is right, those that qualify
+pub record Selecting (l₀ l : List ℕ) (most : ℕ) (cs b : List ℕ) (k : ℕ) (es : List ℕ) (N i n : ℕ) : Type 0 where
+  pub size : length l ≡ length l₀
   pub few : n ≤ most
   pub below : n ≤ i
   pub low : i ≤ N
+  pub wrote : BoxesKept b k → Wrote l₀ l 0 (sofar cs (boxesOf b k) es i)
+  pub count : BoxesKept b k → n ≡ length (sofar cs (boxesOf b k) es i)
 
 module _ (cs : List ℕ) (rs : List BoxRec) (es : List ℕ) where
   sofar-suc : (i : ℕ) → sofar cs rs es (i + 1) ≡ sofar cs rs es i ++ sent cs rs (entryAt es i)
@@ -91,82 +93,80 @@ module _ (cs : List ℕ) (rs : List BoxRec) (es : List ℕ) where
           ∙ ap (map (λ e. e .id)) (keep-append (sendable cs rs) (entriesOf es i) (drop i (entriesOf es N)))
           ∙ map-append (λ e. e .id) (keep (sendable cs rs) (entriesOf es i)) (keep (sendable cs rs) (drop i (entriesOf es N)))
 
-  module _ (most N : ℕ) where
-    pub selecting-none : (l : List ℕ) → Selecting l l most cs rs es N 0 0
-    selecting-none l =
+module _ (cs b : List ℕ) (k : ℕ) (es : List ℕ) (most N : ℕ) where
+  pub selecting-none : (l : List ℕ) → Selecting l l most cs b k es N 0 0
+  selecting-none l =
+      record {
+        size = refl;
+        few = omega arith;
+        below = omega arith;
+        low = omega arith;
+        wrote = λ g. rw (of-none entries es) (wrote-nothing l 0);
+        count = λ g. rw (of-none entries es);
+      }
+
+  module _ {l₀ l : List ℕ} {i n : ℕ} (s : Selecting l₀ l most cs b k es N i n) where
+    pub selecting-more : {m : List ℕ} {r : ℕ} → i < N → n < most → length m ≡ length l → r ≤ n + 1 → (BoxesKept b k → SelectedOne l m cs (boxesOf b k) (entryAt es i) n r)
+        → Selecting l₀ m most cs b k es N (i + 1) r
+    selecting-more {m} {r} h g z j o =
         record {
-          wrote = rw (of-none entries es) (wrote-nothing l 0);
-          count = rw (of-none entries es);
+          size = z ∙ s .size;
           few = omega arith;
-          below = omega arith;
+          below = omega (arith, s .below);
           low = omega arith;
+          wrote = λ x. rw (sofar-suc cs rs es i) (wrote-both l₀ l m 0 n _ (sent cs rs (entryAt es i)) (s .count x) (s .wrote x) (rw (zero-add n) (o x .wrote)));
+          count = λ x.
+              rw (sofar-suc cs rs es i) (o x .count ∙ ap (λ k. k + length (sent cs rs (entryAt es i))) (s .count x) ∙ sym (length-append (sofar cs rs es i) (sent cs rs (entryAt es i))));
         }
+      where
+        rs : List BoxRec
+        rs = boxesOf b k
 
-    module _ {l₀ l : List ℕ} {i n : ℕ} (s : Selecting l₀ l most cs rs es N i n) where
-      pub selecting-more : {m : List ℕ} {r : ℕ} → i < N → n < most → SelectedOne l m cs rs (entryAt es i) n r → Selecting l₀ m most cs rs es N (i + 1) r
-      selecting-more {m} {r} h g o =
-          record {
-            wrote = rw (sofar-suc i) (wrote-both l₀ l m 0 n _ (sent cs rs (entryAt es i)) (s .count) (s .wrote) (rw (zero-add n) (o .wrote)));
-            count = rw (sofar-suc i) (o .count ∙ ap (λ k. k + length (sent cs rs (entryAt es i))) (s .count) ∙ sym (length-append (sofar cs rs es i) (sent cs rs (entryAt es i))));
-            few = omega (arith, o .count, small (sendable cs rs (entryAt es i)));
-            below = omega (arith, o .count, s .below, small (sendable cs rs (entryAt es i)));
-            low = omega arith;
-          }
-        where
-          small : (t : Bool) → length (pick t (entryAt es i .id ∷ []) []) ≤ 1
-          small true = omega arith
-          small false = omega arith
+    -- as many as are to be
+    pub selecting-full : (t : Tables) → t .entries ≡ entriesOf es N → t .boxes ≡ boxesOf b k → most ≤ n → BoxesKept b k → Selected l₀ l most cs t n
+    unfolding chosen
+    selecting-full t p q h x = record { wrote = rw all (s .wrote x); count = rw all (s .count x) }
+      where
+        all : chosen most cs t ≡ sofar cs (boxesOf b k) es i
+        all =
+            let e : most ≡ length (sofar cs (boxesOf b k) es i) = omega (arith, s .few, s .count x) in
+            rw (p, q, e) (front cs (boxesOf b k) es i N (s .low))
 
-      -- as many as are to be
-      pub selecting-full : (t : Tables) → t .entries ≡ entriesOf es N → t .boxes ≡ rs → most ≤ n → Selected l₀ l most cs t n
-      unfolding chosen
-      selecting-full t p q h = done
-        where
-          all : chosen most cs t ≡ sofar cs rs es i
-          all =
-              let e : most ≡ length (sofar cs rs es i) = omega (arith, s .few, s .count) in
-              rw (p, q, e) (front i N (s .low))
-
-          done : Selected l₀ l most cs t n
-          done = record { wrote = rw all (s .wrote); count = rw all (s .count); few = rw p (omega (arith, s .below, s .low, entries .len es N)) }
-
-      -- all were looked at
-      pub selecting-all : (t : Tables) → t .entries ≡ entriesOf es N → t .boxes ≡ rs → N ≤ i → Selected l₀ l most cs t n
-      unfolding chosen
-      selecting-all t p q h = done
-        where
-          all : chosen most cs t ≡ sofar cs rs es i
-          all =
-              let e : N ≡ i = omega (arith, s .low) in
-              rw (p, q, e) (take-all most (sofar cs rs es i) (omega (arith, s .few, s .count)))
-
-          done : Selected l₀ l most cs t n
-          done = record { wrote = rw all (s .wrote); count = rw all (s .count); few = rw p (omega (arith, s .below, s .low, entries .len es N)) }
+    -- all were looked at
+    pub selecting-all : (t : Tables) → t .entries ≡ entriesOf es N → t .boxes ≡ boxesOf b k → N ≤ i → BoxesKept b k → Selected l₀ l most cs t n
+    unfolding chosen
+    selecting-all t p q h x = record { wrote = rw all (s .wrote x); count = rw all (s .count x) }
+      where
+        all : chosen most cs t ≡ sofar cs (boxesOf b k) es i
+        all =
+            let e : N ≡ i = omega (arith, s .low) in
+            rw (p, q, e) (take-all most (sofar cs (boxesOf b k) es i) (omega (arith, s .few, s .count x)))
 
 -- ---- a rebroadcast
 
 sent-as : {l m : List ℕ} {o : Outcome} {w : World} {s t : Result} → s ≡ t → Sent l m o w t → Sent l m o w s
 sent-as q h = rw q h
 
-module _ (e b k : List ℕ) (ys : List PeerRecord) (l : List ℕ) (st : Mempool) (confirmed : List ℕ) {n : ℕ} (q : n ≡ rebroadcastRefusal st (length l / 4) confirmed) where
-  pub sent-refused : (n ≡ 0 → ⊥) → Sent l l (listedOf (NotListed n)) (worldOf e b k ys st) (rebroadcast st (worldOf e b k ys st) (length l / 4) confirmed)
-  unfolding rebroadcast listedOf
-  sent-refused h = rw (← q) (sent-as (no _ _ _ (ne-eqb n 0 h)) (record { outcome = refl; world = refl; wrote = wrote-nothing l 0; placed = omega arith }))
-
+module _ (l : List ℕ) (st : Mempool) (confirmed : List ℕ) {n : ℕ} (q : n ≡ rebroadcastRefusal st (length l / 4) confirmed) where
   -- each id has its place
-  pub sent-placed : n ≡ 0 → {m : List ℕ} {r : ℕ} → Selected l m (st .config .«rebroadcast_count») (idsOf 4 confirmed) (tablesOf e b (st .counts)) r → r ≤ length l / 4
+  pub sent-placed : n ≡ 0 → {r : ℕ} → r ≤ st .counts .pooled → r ≤ length l / 4
   unfolding rebroadcastRefusal
-  sent-placed h {m} {r} s = room (not (whole 4 confirmed)) (ltb (length l / 4) (st .counts .pooled + 1)) refl (sym q ∙ h)
+  sent-placed h {r} s = room (not (whole 4 confirmed)) (ltb (length l / 4) (st .counts .pooled + 1)) refl (sym q ∙ h)
     where
       room : (t u : Bool) → ltb (length l / 4) (st .counts .pooled + 1) ≡ u → _≡_ {A = ℕ} (pick t 1 (pick u 2 0)) 0 → r ≤ length l / 4
       room true u x z = absurd (omega arith)
       room false true x z = absurd (omega arith)
-      room false false x z = omega (arith, ltb-false (length l / 4) (st .counts .pooled + 1) x, s .few, entries .len e (st .counts .pooled))
+      room false false x z = omega (arith, ltb-false (length l / 4) (st .counts .pooled + 1) x)
 
-  pub sent-selected : n ≡ 0 → (m : List ℕ) (r : ℕ) → Selected l m (st .config .«rebroadcast_count») (idsOf 4 confirmed) (tablesOf e b (st .counts)) r
-      → Sent l m (listedOf (Listed r)) (worldOf e b k ys st) (rebroadcast st (worldOf e b k ys st) (length l / 4) confirmed)
-  unfolding rebroadcast listedOf
-  sent-selected h m r s = rw (← q) (sent-as (yes _ _ _ (eq-eqb n 0 h)) (record { outcome = ap wrote (s .count); world = refl; wrote = s .wrote; placed = omega (arith, s .count, sent-placed h s) }))
+  module _ (e b k : List ℕ) (ys : List PeerRecord) where
+    pub sent-refused : (n ≡ 0 → ⊥) → Sent l l (listedOf (NotListed n)) (worldOf e b k ys st) (rebroadcast st (worldOf e b k ys st) (length l / 4) confirmed)
+    unfolding rebroadcast listedOf
+    sent-refused h = rw (← q) (sent-as (no _ _ _ (ne-eqb n 0 h)) (record { outcome = refl; world = refl; wrote = wrote-nothing l 0; placed = omega arith }))
+
+    pub sent-selected : n ≡ 0 → (m : List ℕ) (r : ℕ) → r ≤ st .counts .pooled → Selected l m (st .config .«rebroadcast_count») (idsOf 4 confirmed) (tablesOf e b (st .counts)) r
+        → Sent l m (listedOf (Listed r)) (worldOf e b k ys st) (rebroadcast st (worldOf e b k ys st) (length l / 4) confirmed)
+    unfolding rebroadcast listedOf
+    sent-selected h m r f s = rw (← q) (sent-as (yes _ _ _ (eq-eqb n 0 h)) (record { outcome = ap wrote (s .count); world = refl; wrote = s .wrote; placed = omega (arith, s .count, sent-placed h f) }))
 
 -- ---- on any words
 

@@ -42,13 +42,15 @@ ghost use Rattle.arguments.specs.Arguments.{aheadOf};
 ghost use Rattle.expiring_cache.specs.Layout.{cacheRoom};
 ghost use Rattle.peers.specs.declared.PeerRecord.{PeerRecord};
 ghost use Rattle.entries.specs.Entries.{stamped};
-ghost use Rattle.entries.specs.Layout.{EntriesOk, entryAt, entriesOf, entriesRoom};
+ghost use Rattle.entries.specs.Layout.{EntriesOk, EntriesKept, entryAt, entriesOf, entriesRoom};
 ghost use Rattle.entries.specs.declared.fields.ValidationCost.the-variants.{Measured};
 ghost use Rattle.boxes.specs.Records.{inputsOf};
+ghost use Rattle.boxes.specs.Among.{among};
 ghost use Rattle.boxes.specs.Layout.{BoxesOk, boxesOf};
-ghost use Rattle.pool.specs.Pool.{PoolFits, tablesOf, removeTx};
+ghost use Rattle.boxes.specs.Index.{BoxesKept};
+ghost use Rattle.pool.specs.Pool.{PoolFits, PoolKept, tablesOf, removeTx};
 ghost use Rattle.store.specs.World.{World, worldOf};
-ghost use Rattle.store.specs.Fits.{Testable, Fits, cacheFits};
+ghost use Rattle.store.specs.Fits.{Testable, Kept, cacheFits};
 ghost use Rattle.store.specs.Spares.{Spares, lent};
 ghost use Rattle.cleanup.specs.Passes.{passOf, opened, due, offered, measured, previousCost, answeredWith, weighed};
 ghost use Rattle.cleanup.specs.Post.{PassPost, PassOnly, repassed, noneOut, answerCode, Stepped};
@@ -287,7 +289,8 @@ fn unfit(closed: bool) -> u64
 // Refusals 21 and 1: the number of the first that is met, and 0 where none is.
 fn check_answer(boxes: &[u64], mempool: Mempool, flags: &[u64]) -> u64
     requires { ⌜ BoxesOk (now boxes) (mempool .counts .records) ⌝ }
-    ensures { λ r. ⌜ r ≡ answerCode (noneOut (mempool .pass)) (length (now (flags .entry))) (length (inputsOf (idOf (mempool .pass .candidate)) (boxesOf (now (boxes .entry)) (mempool .counts .records)))) ⌝ }
+    ensures { λ r. ⌜ among r (0 ∷ 21 ∷ 1 ∷ []) ≡ true ⌝ }
+    ensures { λ r. ⌜ (BoxesKept (now (boxes .entry)) (mempool .counts .records) → r ≡ answerCode (noneOut (mempool .pass)) (length (now (flags .entry))) (length (inputsOf (idOf (mempool .pass .candidate)) (boxesOf (now (boxes .entry)) (mempool .counts .records))))) ⌝ }
 {
     let pass = mempool.pass;
     if none_out(pass) {
@@ -315,7 +318,7 @@ fn measured(cost: ValidationCost) -> u64
 // The cost that the last validation of a transaction measured.
 fn previous_cost(entries: &[u64], n: usize, id: Id) -> u64
     requires { ⌜ EntriesOk (now entries) n ⌝ }
-    ensures { λ r. ⌜ r ≡ previousCost (found (λ x. x .id) (idOf id) (entriesOf (now (entries .entry)) n)) ⌝ }
+    ensures { λ r. ⌜ (EntriesKept (now (entries .entry)) n → r ≡ previousCost (found (λ x. x .id) (idOf id) (entriesOf (now (entries .entry)) n))) ⌝ }
 {
     match find_entry(entries, n, id) {
         Place::At(i) => measured(validation_cost_at(entries, i)),
@@ -338,9 +341,9 @@ fn answered_with(pass: Pass, cost: u64) -> Pass
 // The candidate leaves the pool with its records, and its previous cost is added.
 fn take_out(entries: &mut [u64], boxes: &mut [u64], mempool: Mempool) -> Mempool
     requires { ⌜ PoolFits (now entries) (now boxes) (mempool .counts) ⌝ }
-    ensures { λ r. ⌜ Stepped (now (entries .exit)) (now (boxes .exit)) mempool r
+    ensures { λ r. ⌜ (PoolKept (now (entries .entry)) (now (boxes .entry)) (mempool .counts) → Stepped (now (entries .exit)) (now (boxes .exit)) mempool r
         (removeTx (idOf (mempool .pass .candidate)) (tablesOf (now (entries .entry)) (now (boxes .entry)) (mempool .counts)))
-        (answeredWith (previousCost (found (λ x. x .id) (idOf (mempool .pass .candidate)) (entriesOf (now (entries .entry)) (mempool .counts .pooled)))) (passOf (mempool .pass))) ⌝ }
+        (answeredWith (previousCost (found (λ x. x .id) (idOf (mempool .pass .candidate)) (entriesOf (now (entries .entry)) (mempool .counts .pooled)))) (passOf (mempool .pass)))) ⌝ }
 {
     let before = mempool.counts;
     let answering = mempool.pass;
@@ -358,7 +361,7 @@ fn take_out(entries: &mut [u64], boxes: &mut [u64], mempool: Mempool) -> Mempool
 // The candidate is stamped with the cost that was measured and the pass's time, and that cost is added.
 fn stamp(entries: &mut [u64], mempool: Mempool, cost: u64) -> Mempool
     requires { ⌜ EntriesOk (now entries) (mempool .counts .pooled) ⌝ }
-    ensures { λ r. ⌜ ((b : List ℕ) → BoxesOk b (mempool .counts .records) → Stepped (now (entries .exit)) b mempool r
+    ensures { λ r. ⌜ ((b : List ℕ) → BoxesOk b (mempool .counts .records) → PoolKept (now (entries .entry)) b (mempool .counts) → Stepped (now (entries .exit)) b mempool r
         (record { entries = stamped (idOf (mempool .pass .candidate)) (Measured cost) (mempool .pass .time) (entriesOf (now (entries .entry)) (mempool .counts .pooled)); boxes = boxesOf b (mempool .counts .records) })
         (answeredWith cost (passOf (mempool .pass)))) ⌝ }
 {
@@ -380,7 +383,7 @@ fn weigh(
 ) -> Answered
     requires { ⌜ Testable (now entries) (now boxes) (now cache) mempool ⌝ }
     requires { ⌜ max (mempool .config .«invalidation_capacity») 1 ≤ cacheRoom (now cache) ⌝ }
-    ensures { λ r. ⌜ ((ys : List PeerRecord) → Fits (now (entries .entry)) (now (boxes .entry)) (now (cache .entry)) ys mempool →
+    ensures { λ r. ⌜ ((ys : List PeerRecord) → Kept (now (entries .entry)) (now (boxes .entry)) (now (cache .entry)) ys mempool →
         PassPost mempool (r .mempool) (answeredOf (r .outcome)) (now (entries .exit)) (now (boxes .exit)) (now (cache .exit)) ys
         (weighed (mempool .config) (worldOf (now (entries .entry)) (now (boxes .entry)) (now (cache .entry)) ys mempool) (passOf (mempool .pass)) verdict)) ⌝ }
     ensures { λ r. ⌜ ofAnswer (r .outcome) ≡ true ⌝ }

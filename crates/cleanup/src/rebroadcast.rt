@@ -9,11 +9,12 @@ use pool_types::ListOutcome;
 use pool_types::Mempool;
 ghost use mathlib.Core.Path.{_≡_};
 ghost use mathlib.Core.Bool.{true, false};
-ghost use Prim.Native.Nat.{_+_, _<_};
+ghost use Prim.Native.Nat.{_+_, _≤_, _<_};
 ghost use Rattle.words.specs.Sums.{cap};
 ghost use Rattle.pool_types.specs.Outcomes.{listedOf, refused};
 ghost use Rattle.boxes.specs.Flat.{idsOf};
 ghost use Rattle.boxes.specs.Layout.{boxesOf};
+ghost use Rattle.boxes.specs.Index.{BoxesKept};
 ghost use Rattle.entries.specs.Layout.{entryAt};
 ghost use Rattle.pool.specs.Pool.{PoolFits, fitsTest, tablesOf};
 ghost use Rattle.cleanup.specs.Post.{Told};
@@ -48,7 +49,8 @@ fn select_one(
     requires { ⌜ PoolFits (now entries) (now boxes) counts ⌝ }
     requires { ⌜ i < counts .pooled ⌝ }
     requires { ⌜ n < cap ⌝ }
-    ensures { λ r. ⌜ SelectedOne (now (answer .entry)) (now (answer .exit)) (idsOf 4 (now (confirmed .entry))) (boxesOf (now (boxes .entry)) (counts .records)) (entryAt (now (entries .entry)) i) n r ⌝ }
+    ensures { λ r. ⌜ r ≤ n + 1 ⌝ }
+    ensures { λ r. ⌜ (BoxesKept (now (boxes .entry)) (counts .records) → SelectedOne (now (answer .entry)) (now (answer .exit)) (idsOf 4 (now (confirmed .entry))) (boxesOf (now (boxes .entry)) (counts .records)) (entryAt (now (entries .entry)) i) n r) ⌝ }
 {
     let id = id_at(entries, i);
     if all_listed(boxes, counts.records, id, confirmed) {
@@ -68,7 +70,8 @@ fn select(
     confirmed: &[u64],
 ) -> usize
     requires { ⌜ PoolFits (now entries) (now boxes) counts ⌝ }
-    ensures { λ r. ⌜ Selected (now (answer .entry)) (now (answer .exit)) most (idsOf 4 (now (confirmed .entry))) (tablesOf (now (entries .entry)) (now (boxes .entry)) counts) r ⌝ }
+    ensures { λ r. ⌜ r ≤ counts .pooled ⌝ }
+    ensures { λ r. ⌜ (BoxesKept (now (boxes .entry)) (counts .records) → Selected (now (answer .entry)) (now (answer .exit)) most (idsOf 4 (now (confirmed .entry))) (tablesOf (now (entries .entry)) (now (boxes .entry)) counts) r) ⌝ }
 {
     let mut n = 0;
     let mut i = 0;

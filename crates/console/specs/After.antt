@@ -7,7 +7,7 @@ use lib.ListN.{length}
 use Rattle.boxes.specs.Flat.{countOf, idsTo}
 use Rattle.forms.specs.Nums.{Prints}
 use Rattle.store.specs.World.{worldOf}
-use Rattle.store.specs.Fits.{Fits}
+use Rattle.store.specs.Fits.{Kept as Sound}
 use Rattle.peers.specs.Flat.{records}
 use Rattle.pool_types.specs.Outcomes.{Outcome}
 use Rattle.pool_types.specs.declared.Mempool.{Mempool}
@@ -17,9 +17,9 @@ use Rattle.console.specs.Console.{Line, same, writtenIn}
 use Rattle.console.specs.declared.Kept.{Kept}
 use Rattle.console.specs.declared.Told.{Told}
 
--- the words fit what is held
+-- the store is kept
 pub record Holds (e b k p a : List ℕ) (h : Kept) : Type 0 where
-  pub fits : Fits e b k (records p) (h .mempool)
+  pub store : Sound e b k (records p) (h .mempool)
   pub written : h .written ≤ countOf 4 a
 
 -- what the answer of a call that writes ids is made of: the state m and the statistics s that are held then, the ids in the answer buffer, of which

@@ -33,12 +33,16 @@ use Rattle.admit.specs.Admit.{Admitted, settled, seated, contested, admitSpec, 
 use Rattle.store.specs.World.{World, worldOf, Result, unchanged}
 use Rattle.process.specs.Process.{Limits, standingOf, judged, processed}
 use Rattle.entries.specs.Layout.{entriesRoom}
+use Rattle.entries.specs.Layout.{kept-none as entries-none}
+use Rattle.boxes.specs.Index.{kept-none as boxes-none}
+use Rattle.expiring_cache.specs.Layout.{kept-none as cache-none}
 use Rattle.boxes.specs.Layout.{boxesRoom}
 use Rattle.expiring_cache.specs.Layout.{cacheRoom, ok-room}
 use Rattle.forms.specs.Nums.{Prints}
 use Rattle.stats.specs.Stats.{fresh}
 use Rattle.stats.specs.declared.FeeStats.{FeeStats}
-use Rattle.store.specs.Fits.{Fits, goes-on, un-not}
+use Rattle.store.specs.Fits.{goes-on, un-not}
+use Rattle.store.specs.Fits.{Kept as Sound}
 use Rattle.peers.specs.Flat.{records, flats}
 use Rattle.process.specs.Post.{Post}
 use Rattle.process.specs.declared.Processed.{Processed}
@@ -192,7 +196,7 @@ module _ (e b k p a e' b' k' p' a' : List ℕ) (h : Kept) (r : Processed) (s : R
   unfolding processedLine
   after-processed =
       record {
-        holds = record { fits = rw (w .mempool) (d .fits); written = omega (arith, w .written) };
+        holds = record { store = rw (w .mempool) (d .kept); written = omega (arith, w .written) };
         prints = prints-as (rw (d .outcome, held-processed)) (w .prints);
         ready = w .ready;
         config = rw (w .mempool) (d .config);
@@ -233,7 +237,7 @@ module _ (e b k p a e' b' k' a' : List ℕ) (h : Kept) (r : Applied) (s : BlockR
   unfolding appliedLine
   after-applied =
       record {
-        holds = record { fits = rw (w .mempool) (d .fits); written = omega (arith, w .written) };
+        holds = record { store = rw (w .mempool) (d .kept); written = omega (arith, w .written) };
         prints = prints-as (rw (d .outcome, held-removed)) (w .prints);
         ready = w .ready;
         config = rw (w .mempool) (d .config);
@@ -280,7 +284,7 @@ pub after-done : (e b k p a e' b' k' p' o₀ o : List ℕ) (h : Kept) (r : Mempo
 unfolding doneLine
 after-done e b k p a e' b' k' p' o₀ o h r n s u len d t =
     record {
-      holds = record { fits = d .fits; written = omega arith };
+      holds = record { store = d .kept; written = omega arith };
       prints = prints-as (ap (orRefused u) (d .outcome)) t;
       ready = refl;
       config = d .config;
@@ -295,7 +299,7 @@ pub after-pass : (e b k p a e' b' k' p' o₀ o : List ℕ) (h : Kept) (r : Mempo
 unfolding passLine
 after-pass e b k p a e' b' k' p' o₀ o h r n s len d t =
     record {
-      holds = record { fits = d .fits; written = omega arith };
+      holds = record { store = d .kept; written = omega arith };
       prints = prints-as (ap passText (d .outcome)) t;
       ready = refl;
       config = d .config;
@@ -311,14 +315,18 @@ after-pass e b k p a e' b' k' p' o₀ o h r n s len d t =
 fits-none : (e b : List ℕ) → fitsTest e b (record { pooled = 0; records = 0 }) ≡ true
 fits-none e b = rw (le-leb 0 (entriesRoom e) (omega arith)) (le-leb 0 (boxesRoom b) (omega arith))
 
-pub fits-new : (e b k p : List ℕ) (c : MempoolConfig) → max (c .«invalidation_capacity») 1 ≤ cacheRoom k → 512 ≤ length p → Fits e b k (records p) (empty c)
+pub kept-new : (e b k p : List ℕ) (c : MempoolConfig) → max (c .«invalidation_capacity») 1 ≤ cacheRoom k → 512 ≤ length p → Sound e b k (records p) (empty c)
 unfolding empty
-fits-new e b k p c y z =
+kept-new e b k p c y z =
     record {
-      tests = record { pool = fits-true e b _ (fits-none e b); cache = ok-room k 0 (omega arith) };
-      keeps = y;
-      records = omega (arith, z, flats .len p (length p / 2));
-      used = omega arith;
+      fits =
+          record {
+            tests = record { pool = fits-true e b _ (fits-none e b); cache = ok-room k 0 (omega arith) };
+            keeps = y;
+            records = omega (arith, z, flats .len p (length p / 2));
+            used = omega arith;
+          };
+      indexed = record { pool = record { entries = entries-none e; boxes = boxes-none b }; cache = cache-none k };
     }
 
 -- the records in use are among the words
@@ -326,9 +334,9 @@ pub peers-words : (p : List ℕ) (used : ℕ) → 256 ≤ length (records p) →
 peers-words p used h u = omega (arith, h, u, flats .len p (length p / 2))
 
 -- before the first start
-pub holds-nothing : (e b k p a : List ℕ) → 5 ≤ length k → 512 ≤ length p → Holds e b k p a nothing
+pub holds-nothing : (e b k p a : List ℕ) → 16 ≤ length k → 512 ≤ length p → Holds e b k p a nothing
 unfolding cacheRoom
-holds-nothing e b k p a y z = record { fits = fits-new e b k p noConfig (omega arith) z; written = omega arith }
+holds-nothing e b k p a y z = record { store = kept-new e b k p noConfig (omega arith) z; written = omega arith }
 
 module _ (e b k p : List ℕ) (c : MempoolConfig) where
   abbrev sizesHere : Sizes
@@ -358,15 +366,15 @@ module _ (e b k p : List ℕ) (c : MempoolConfig) where
       let r = goes-on (ltb (cacheRoom k) (c .«invalidation_capacity»)) _ (q .1) in
       ltb-false _ _ (r .0)
 
-  fits-empty : sized sizesHere ≡ true → settles sizesHere c ≡ true → Fits e b k (records p) (empty c)
-  fits-empty t u = let z = sized-needs t in let y = settled-needs u in fits-new e b k p c (omega (arith, z .0, y)) (z .1)
+  kept-empty : sized sizesHere ≡ true → settles sizesHere c ≡ true → Sound e b k (records p) (empty c)
+  kept-empty t u = let z = sized-needs t in let y = settled-needs u in kept-new e b k p c (omega (arith, z .0, y)) (z .1)
 
-  pub fits-started : (st : Mempool) → started sizesHere c ≡ Ready st → Fits e b k (records p) st
+  pub kept-started : (st : Mempool) → started sizesHere c ≡ Ready st → Sound e b k (records p) st
   unfolding started
-  fits-started st h = go (sized sizesHere) (settles sizesHere c) refl refl h
+  kept-started st h = go (sized sizesHere) (settles sizesHere c) refl refl h
     where
-      go : (t u : Bool) → sized sizesHere ≡ t → settles sizesHere c ≡ u → pick t (pick u (Ready (empty c)) (NotStarted 6)) (NotStarted 6) ≡ Ready st → Fits e b k (records p) st
-      go true true q r z = let y : empty c ≡ st = cc in subst (λ (s : Mempool). Fits e b k (records p) s) y (fits-empty q r)
+      go : (t u : Bool) → sized sizesHere ≡ t → settles sizesHere c ≡ u → pick t (pick u (Ready (empty c)) (NotStarted 6)) (NotStarted 6) ≡ Ready st → Sound e b k (records p) st
+      go true true q r z = let y : empty c ≡ st = cc in subst (λ (s : Mempool). Sound e b k (records p) s) y (kept-empty q r)
       go true false q r z = let y : _≡_ {A = ℕ} 0 1 = cc in absurd (omega arith)
       go false u q r z = let y : _≡_ {A = ℕ} 0 1 = cc in absurd (omega arith)
 
@@ -377,7 +385,7 @@ module _ (e b k p : List ℕ) (c : MempoolConfig) where
     after-ready st s q z t =
         rw q
         (record {
-          holds = record { fits = fits-started st q; written = omega arith };
+          holds = record { store = kept-started st q; written = omega arith };
           prints = t;
           ready = refl;
           config = refl;
@@ -393,7 +401,7 @@ module _ (e b k p : List ℕ) (c : MempoolConfig) where
     after-refused n q t =
         rw q
         (record {
-          holds = record { fits = f .fits; written = omega arith };
+          holds = record { store = f .store; written = omega arith };
           prints = t;
           ready = refl;
           config = refl;

@@ -29,7 +29,9 @@ ghost use lib.ListN.{length, take};
 ghost use Rattle.words.specs.Ids.{idOf};
 ghost use Rattle.forms.specs.Nums.{Prints};
 ghost use Rattle.peers.specs.Flat.{records};
-ghost use Rattle.pool.specs.Pool.{PoolFits};
+ghost use Rattle.entries.specs.Layout.{EntriesKept};
+ghost use Rattle.expiring_cache.specs.Layout.{CacheKept};
+ghost use Rattle.pool.specs.Pool.{PoolFits, PoolKept};
 ghost use Rattle.store.specs.World.{worldOf};
 ghost use Rattle.cleanup.specs.Rebroadcast.{rebroadcast};
 ghost use Rattle.mempool.specs.Listing.{topOf};
@@ -62,6 +64,7 @@ pub fn on_contains(
     id: Id,
     out: &mut [u8],
 ) -> usize
+    requires { ⌜ EntriesKept (now entries) (mempool .counts .pooled) × CacheKept (now cache) (mempool .cached) ⌝ }
     requires { ⌜ 32768 ≤ length (now out) ⌝ }
     ensures { λ r. ⌜ Prints (queryText (containsOf (now (entries .entry)) (now (cache .entry)) mempool time (idOf id))) 0 (now (out .entry)) (now (out .exit)) r ⌝ }
 {
@@ -80,6 +83,7 @@ pub fn on_spending(
     key: Id,
     out: &mut [u8],
 ) -> usize
+    requires { ⌜ PoolKept (now entries) (now boxes) (mempool .counts) ⌝ }
     requires { ⌜ 32768 ≤ length (now out) ⌝ }
     ensures { λ r. ⌜ Prints (queryText (spendingOf (now (entries .entry)) (now (boxes .entry)) mempool (idOf key))) 0 (now (out .entry)) (now (out .exit)) r ⌝ }
 {
@@ -101,7 +105,7 @@ pub fn on_rebroadcast(
     n: usize,
     out: &mut [u8],
 ) -> usize
-    requires { ⌜ PoolFits (now entries) (now boxes) (mempool .counts) ⌝ }
+    requires { ⌜ PoolFits (now entries) (now boxes) (mempool .counts) × PoolKept (now entries) (now boxes) (mempool .counts) ⌝ }
     requires { ⌜ (length (now listing) ≤ 1024) × (32768 ≤ length (now out)) ⌝ }
     ensures { λ r. ⌜ ((k p : List ℕ) → Prints (sentText (rebroadcast mempool (worldOf (now (entries .entry)) (now (boxes .entry)) k (records p) mempool) (length (now (listing .entry)) / 4) (take n (now (one .entry))))) 0 (now (out .entry)) (now (out .exit)) r) ⌝ }
 {

@@ -1,17 +1,24 @@
-// The words of an entry: records of fourteen words, the id's four, weight, base, size, cost, the validation cost's tag and value, created,
-// last checked, height key, number of inputs. Only this module knows the layout.
+// The words of an entry: the id's four, weight, base, size, cost, the validation cost's tag and value, created, last checked, height key, number of
+// inputs. They are read by rank and written in a slot.
+use crate::cells::SLOT;
+use crate::cells::get;
+use crate::cells::id_in;
+use crate::cells::put;
+use crate::cells::slot_at;
+use crate::cells::slots;
 use words::ids::Id;
-use words::ids::load_id;
 use words::ids::put_four;
 use words::ids::put_id;
-use words::ids::same_id;
 ghost use mathlib.Core.Path.{_≡_};
-ghost use Prim.Native.Nat.{ℕ, _+_, _≤_};
-ghost use lib.Dec.{eqb};
-ghost use lib.ListN.{length, set};
+ghost use Prim.Native.Nat.{ℕ, _+_, _≤_, _<_};
+ghost use lib.ListN.{length};
 ghost use Rattle.words.specs.Ids.{idOf};
 ghost use Rattle.words.specs.Rows.{stored};
-ghost use Rattle.entries.specs.Layout.{entriesRoom, EntriesOk, entryOf, entryAt, entriesOf, Plain, wordOf, costOf, tagOf, valueOf, entryWords};
+ghost use Rattle.entries.specs.Cells.{slotCount, Plain, wordOf};
+ghost use Rattle.entries.specs.Layout.{entriesRoom, EntriesOk, entryOf, entryAt, costOf, tagOf, valueOf};
+ghost use Rattle.entries.specs.Storing.{entryWords};
+ghost use Rattle.entries.specs.Held.{EntryPut};
+ghost use Rattle.entries.specs.Crediting.{Stamps};
 
 pub enum ValidationCost {
     Unmeasured,
@@ -35,33 +42,25 @@ pub struct PoolEntry {
 pub fn entries_room(s: &[u64]) -> usize
     ensures { λ r. ⌜ r ≡ entriesRoom (now (s .entry)) ⌝ }
 {
-    s.len() / 14
+    slots(s)
 }
 
 // ---- what is read: the fields of the entry at rank i
 
-// A word of its record that is a field by itself.
+// A word of its slot that is a field by itself.
 fn word_at(s: &[u64], i: usize, j: usize) -> u64
     requires { ⌜ EntriesOk (now s) (i + 1) ⌝ }
     requires { ⌜ Plain j ⌝ }
     ensures { λ r. ⌜ r ≡ wordOf (entryAt (now (s .entry)) i) j ⌝ }
 {
-    s[i * 14 + j]
+    get(s, slot_at(s, i), j)
 }
 
 pub fn id_at(s: &[u64], i: usize) -> Id
     requires { ⌜ EntriesOk (now s) (i + 1) ⌝ }
     ensures { λ r. ⌜ idOf r ≡ entryAt (now (s .entry)) i .id ⌝ }
 {
-    load_id(s, i * 14)
-}
-
-// Whether the entry at rank i has this id.
-pub fn is_at(s: &[u64], i: usize, id: Id) -> bool
-    requires { ⌜ EntriesOk (now s) (i + 1) ⌝ }
-    ensures { λ r. ⌜ r ≡ eqb (entryAt (now (s .entry)) i .id) (idOf id) ⌝ }
-{
-    same_id(id_at(s, i), id)
+    id_in(s, slot_at(s, i))
 }
 
 pub fn weight_at(s: &[u64], i: usize) -> u64
@@ -92,8 +91,8 @@ pub fn validation_cost_at(s: &[u64], i: usize) -> ValidationCost
     requires { ⌜ EntriesOk (now s) (i + 1) ⌝ }
     ensures { λ r. ⌜ r ≡ entryAt (now (s .entry)) i .validationCost ⌝ }
 {
-    let at = i * 14;
-    cost_of(s[at + 8], s[at + 9])
+    let k = slot_at(s, i);
+    cost_of(get(s, k, 8), get(s, k, 9))
 }
 
 pub fn created_at(s: &[u64], i: usize) -> u64
@@ -142,7 +141,7 @@ pub fn entry_at(s: &[u64], i: usize) -> PoolEntry
     }
 }
 
-// ---- what is written
+// ---- what is written in a slot
 
 fn tag_of(c: ValidationCost) -> u64
     ensures { λ r. ⌜ r ≡ tagOf c ⌝ }
@@ -177,25 +176,22 @@ fn put_row(s: &mut [u64], p: usize, e: PoolEntry)
     s[p + 13] = e.inputs;
 }
 
-// Writes the entry at rank i.
-pub fn store_entry(s: &mut [u64], i: usize, e: PoolEntry)
-    requires { ⌜ EntriesOk (now s) (i + 1) ⌝ }
-    ensures { λ _. ⌜ ((m : ℕ) → entriesOf (now (s .exit)) m ≡ set (entriesOf (now (s .entry)) m) i (entryOf e)) ⌝ }
+// Writes an entry. The slot's use and link stay as they are.
+pub(crate) fn put_entry(s: &mut [u64], i: usize, e: PoolEntry)
+    requires { ⌜ i < slotCount (now s) ⌝ }
+    ensures { λ _. ⌜ EntryPut (now (s .entry)) (now (s .exit)) i (entryOf e) ⌝ }
 {
-    put_row(s, i * 14, e);
+    put_row(s, i * SLOT, e);
 }
 
-// The entry at `from`, written at `to` too.
-pub fn move_entry(s: &mut [u64], from: usize, to: usize)
-    requires { ⌜ EntriesOk (now s) (from + 1) ⌝ }
-    requires { ⌜ EntriesOk (now s) (to + 1) ⌝ }
-    ensures { λ _. ⌜ ((m : ℕ) → entriesOf (now (s .exit)) m ≡ set (entriesOf (now (s .entry)) m) to (entryAt (now (s .entry)) from)) ⌝ }
+// Writes a validation cost and the time of a check.
+pub(crate) fn put_stamp(s: &mut [u64], i: usize, cost: ValidationCost, time: u64)
+    requires { ⌜ i < slotCount (now s) ⌝ }
+    ensures { λ _. ⌜ Stamps (now (s .entry)) (now (s .exit)) i cost time ⌝ }
 {
-    let a = from * 14;
-    let b = to * 14;
-    let mut j = 0;
-    while j < 14 {
-        s[b + j] = s[a + j];
-        j += 1;
-    }
+    let tag = tag_of(cost);
+    let value = value_of(cost);
+    put(s, i, 8, tag);
+    put(s, i, 9, value);
+    put(s, i, 11, time);
 }

@@ -1,4 +1,9 @@
 pub mod Cache
-pub mod Layout
-pub mod Steps
 pub mod Laws
+pub mod Windows
+pub mod Layout
+pub mod Index
+pub mod Entering
+pub mod Seeking
+pub mod Gathering
+pub mod Adding

@@ -1,127 +1,41 @@
-// Ids once found invalid: records of five words in a lent slice, the id's four words and the time it was held from, oldest first. The
-// state is their count. No word of the table is used as an index.
+// Ids once found invalid, in order of insertion: rows in a window of slots in a lent slice. A row enters behind the window, the oldest leave by
+// its start, and where it reaches the last slot it is moved to the front. The state is the number of rows; a fresh cache has 0, whatever its words are.
+mod links;
+mod rows;
+
+use crate::links::Found;
+use crate::links::get;
+use crate::links::push;
+use crate::rows::Row;
+use crate::rows::first_slot;
+use crate::rows::load_row;
+use crate::rows::put_first;
+use crate::rows::row_since;
+use crate::rows::slot_count;
 use words::ids::Id;
-use words::ids::load_id;
-use words::ids::same_id;
 use words::sums::saturating_sub;
 ghost use mathlib.Core.Path.{_≡_};
-ghost use Prim.Native.Nat.{ℕ, _+_, _-_, _≤_, max};
-ghost use lib.ListN.{length, drop, set};
+ghost use mathlib.Core.Bool.{true};
+ghost use Prim.Native.Nat.{_+_, _-_, _≤_, _<_, max};
 ghost use Rattle.words.specs.Ids.{idOf};
-ghost use Rattle.words.specs.Rows.{stored};
-ghost use Rattle.expiring_cache.specs.Cache.{young, present, held, enter};
-ghost use Rattle.expiring_cache.specs.Layout.{Five, rowAt, rowWords, heldOf, heldAt, cacheOf, cacheRoom, CacheOk, Inserted, Pruned};
-ghost use Rattle.expiring_cache.specs.Steps.{sinceOf};
+ghost use Rattle.expiring_cache.specs.Cache.{young, present, held};
+ghost use Rattle.expiring_cache.specs.Layout.{slotsIn, cacheOf, cacheRoom, CacheOk, CacheKept, Inserted, Pruned};
+ghost use Rattle.expiring_cache.specs.Gathering.{Fresh, Gathered};
+ghost use Rattle.expiring_cache.specs.Adding.{Roomy, Added};
 
-struct Row {
-    id: Id,
-    since: u64,
-}
-
-enum Found {
-    Since(u64),
-    Absent,
-}
-
-// ---- the words: only these functions know the layout
-
-// How many records the slice has room for.
+// How many rows the words have room for: the other slots are slack, so that the window is moved at most once in as many insertions.
 pub fn cache_room(cache: &[u64]) -> usize
     ensures { λ r. ⌜ r ≡ cacheRoom (now (cache .entry)) ⌝ }
 {
-    cache.len() / 5
+    slot_count(cache) * 4 / 5
 }
 
-fn get_row(s: &[u64], p: usize) -> Row
-    requires { ⌜ p + 5 ≤ length (now s) ⌝ }
-    ensures { λ r. ⌜ r ≡ rowAt (now (s .entry)) p ⌝ }
-{
-    Row {
-        id: Id {
-            a: s[p],
-            b: s[p + 1],
-            c: s[p + 2],
-            d: s[p + 3],
-        },
-        since: s[p + 4],
-    }
-}
-
-fn put_row(s: &mut [u64], p: usize, x: Row)
-    requires { ⌜ Five p (length (now s)) ⌝ }
-    ensures { λ _. ⌜ now (s .exit) ≡ stored (now (s .entry)) p (rowWords x) ⌝ }
-{
-    let id = x.id;
-    s[p] = id.a;
-    s[p + 1] = id.b;
-    s[p + 2] = id.c;
-    s[p + 3] = id.d;
-    s[p + 4] = x.since;
-}
-
-// The id of the row at index `at`.
-fn row_id(cache: &[u64], at: usize) -> Id
-    requires { ⌜ CacheOk (now cache) (at + 1) ⌝ }
-    ensures { λ r. ⌜ idOf r ≡ heldAt (now (cache .entry)) at .id ⌝ }
-{
-    load_id(cache, at * 5)
-}
-
-// The time of the row at index `at`.
-fn row_since(cache: &[u64], at: usize) -> u64
-    requires { ⌜ CacheOk (now cache) (at + 1) ⌝ }
-    ensures { λ r. ⌜ r ≡ heldAt (now (cache .entry)) at .since ⌝ }
-{
-    cache[at * 5 + 4]
-}
-
-// The row at index `at`.
-fn load_row(cache: &[u64], at: usize) -> Row
-    requires { ⌜ CacheOk (now cache) (at + 1) ⌝ }
-    ensures { λ r. ⌜ heldOf r ≡ heldAt (now (cache .entry)) at ⌝ }
-{
-    get_row(cache, at * 5)
-}
-
-// Writes the row at index `at`.
-fn store_row(cache: &mut [u64], at: usize, x: Row)
-    requires { ⌜ CacheOk (now cache) (at + 1) ⌝ }
-    ensures { λ _. ⌜ ((m : ℕ) → cacheOf (now (cache .exit)) m ≡ set (cacheOf (now (cache .entry)) m) at (heldOf x)) ⌝ }
-{
-    put_row(cache, at * 5, x);
-}
-
-// ---- the rows
-
-// The row at `from`, written at `to` too.
-fn move_row(cache: &mut [u64], from: usize, to: usize)
-    requires { ⌜ CacheOk (now cache) (from + 1) ⌝ }
-    requires { ⌜ CacheOk (now cache) (to + 1) ⌝ }
-    ensures { λ _. ⌜ ((m : ℕ) → cacheOf (now (cache .exit)) m ≡ set (cacheOf (now (cache .entry)) m) to (heldAt (now (cache .entry)) from)) ⌝ }
-{
-    let x = load_row(cache, from);
-    store_row(cache, to, x);
-}
-
-// The time that the first of n rows with this id has.
-fn get(cache: &[u64], n: usize, id: Id) -> Found
-    requires { ⌜ CacheOk (now cache) n ⌝ }
-    ensures { λ r. ⌜ r ≡ sinceOf (idOf id) (cacheOf (now (cache .entry)) n) ⌝ }
-{
-    let mut i = 0;
-    while i < n {
-        if same_id(row_id(cache, i), id) {
-            return Found::Since(row_since(cache, i));
-        }
-        i += 1;
-    }
-    Found::Absent
-}
+// ---- an id
 
 // Whether the id is present, expired or not.
 fn contains_key(cache: &[u64], n: usize, id: Id) -> bool
     requires { ⌜ CacheOk (now cache) n ⌝ }
-    ensures { λ r. ⌜ r ≡ present (idOf id) (cacheOf (now (cache .entry)) n) ⌝ }
+    ensures { λ r. ⌜ (CacheKept (now (cache .entry)) n → r ≡ present (idOf id) (cacheOf (now (cache .entry)) n)) ⌝ }
 {
     match get(cache, n, id) {
         Found::Since(_) => true,
@@ -139,13 +53,49 @@ fn is_fresh(since: u64, ttl: u64, time: u64) -> bool
 // Whether the id is held at this time.
 pub fn contains(cache: &[u64], n: usize, ttl: u64, time: u64, id: Id) -> bool
     requires { ⌜ CacheOk (now cache) n ⌝ }
-    ensures { λ r. ⌜ r ≡ held ttl time (idOf id) (cacheOf (now (cache .entry)) n) ⌝ }
+    ensures { λ r. ⌜ (CacheKept (now (cache .entry)) n → r ≡ held ttl time (idOf id) (cacheOf (now (cache .entry)) n)) ⌝ }
 {
     match get(cache, n, id) {
         Found::Since(since) => is_fresh(since, ttl, time),
         Found::Absent => false,
     }
 }
+
+// ---- the window is moved to the front
+
+// Moves those of n rows from slot `first` on that are held at this time to the front, in order, and links them anew. Returns how many they are.
+fn gather(cache: &mut [u64], first: usize, n: usize, ttl: u64, time: u64) -> usize
+    requires { ⌜ first + n ≤ slotsIn (now cache) ⌝ }
+    ensures { λ r. ⌜ Gathered (now (cache .entry)) (now (cache .exit)) first n r ttl time ⌝ }
+{
+    let mut w = 0;
+    let mut i = 0;
+    while i < n {
+        let row = load_row(cache, first + i);
+        if is_fresh(row.since, ttl, time) {
+            push(cache, 0, w, row);
+            w += 1;
+            i += 1;
+        } else {
+            i += 1;
+        }
+    }
+    w
+}
+
+// Makes room behind n rows from slot `first` on, and returns where they start then. At time 0 all rows are of age 0: all stay.
+fn make_room(cache: &mut [u64], first: usize, n: usize) -> usize
+    requires { ⌜ (first + n ≤ slotsIn (now cache)) × (n < slotsIn (now cache)) ⌝ }
+    ensures { λ r. ⌜ Roomy (now (cache .entry)) (now (cache .exit)) first n r ⌝ }
+{
+    if first + n < slot_count(cache) {
+        return first;
+    }
+    gather(cache, first, n, 1, 0);
+    0
+}
+
+// ---- an id enters
 
 // How many of n rows must go so that one more is within the capacity, which is at least 1.
 fn excess(n: usize, capacity: usize) -> usize
@@ -160,32 +110,17 @@ fn excess(n: usize, capacity: usize) -> usize
     n - capacity + 1
 }
 
-// Drops the k oldest of n rows: those behind them move to the front.
-fn drop_oldest(cache: &mut [u64], n: usize, k: usize) -> usize
-    requires { ⌜ CacheOk (now cache) n ⌝ }
-    requires { ⌜ k ≤ n ⌝ }
-    ensures { λ r. ⌜ (r ≡ n - k) × (cacheOf (now (cache .exit)) r ≡ drop k (cacheOf (now (cache .entry)) n)) ⌝ }
-{
-    if k == 0 {
-        return n;
-    }
-    let left = n - k;
-    let mut i = 0;
-    while i < left {
-        move_row(cache, i + k, i);
-        i += 1;
-    }
-    left
-}
-
 // Puts an id that is not there behind the n rows; the oldest go where the cache is full.
 fn add(cache: &mut [u64], n: usize, capacity: usize, time: u64, id: Id) -> usize
     requires { ⌜ CacheOk (now cache) n ⌝ }
     requires { ⌜ max capacity 1 ≤ cacheRoom (now cache) ⌝ }
-    ensures { λ r. ⌜ (CacheOk (now (cache .exit)) r) × (cacheOf (now (cache .exit)) r ≡ enter capacity time (idOf id) (cacheOf (now (cache .entry)) n)) ⌝ }
+    ensures { λ r. ⌜ Added (now (cache .entry)) (now (cache .exit)) n r capacity time (idOf id) ⌝ }
 {
-    let left = drop_oldest(cache, n, excess(n, capacity));
-    store_row(cache, left, Row { id, since: time });
+    let k = excess(n, capacity);
+    let left = n - k;
+    let first = make_room(cache, first_slot(cache, n) + k, left);
+    push(cache, first, left, Row { id, since: time });
+    put_first(cache, first);
     left + 1
 }
 
@@ -193,7 +128,8 @@ fn add(cache: &mut [u64], n: usize, capacity: usize, time: u64, id: Id) -> usize
 pub fn insert(cache: &mut [u64], n: usize, capacity: usize, time: u64, id: Id) -> usize
     requires { ⌜ CacheOk (now cache) n ⌝ }
     requires { ⌜ max capacity 1 ≤ cacheRoom (now cache) ⌝ }
-    ensures { λ r. ⌜ Inserted (now (cache .entry)) (now (cache .exit)) n r capacity time (idOf id) ⌝ }
+    ensures { λ r. ⌜ CacheOk (now (cache .exit)) r ⌝ }
+    ensures { λ r. ⌜ (CacheKept (now (cache .entry)) n → Inserted (now (cache .entry)) (now (cache .exit)) n r capacity time (idOf id)) ⌝ }
 {
     if contains_key(cache, n, id) {
         return n;
@@ -201,21 +137,37 @@ pub fn insert(cache: &mut [u64], n: usize, capacity: usize, time: u64, id: Id) -
     add(cache, n, capacity, time, id)
 }
 
-// Keeps, in order, the rows that are held at this time, and returns how many they are.
+// ---- what expired leaves
+
+// Whether all of n rows from slot `first` on are held at this time.
+fn all_fresh(cache: &[u64], first: usize, n: usize, ttl: u64, time: u64) -> bool
+    requires { ⌜ first + n ≤ slotsIn (now cache) ⌝ }
+    ensures { λ r. ⌜ (r ≡ true → Fresh (now (cache .entry)) first n ttl time) ⌝ }
+{
+    let mut i = 0;
+    while i < n {
+        if !is_fresh(row_since(cache, first + i), ttl, time) {
+            return false;
+        }
+        i += 1;
+    }
+    true
+}
+
+// Keeps, in order, the rows that are held at this time, and returns how many they are. Where all are, no word changes.
 pub fn prune(cache: &mut [u64], n: usize, ttl: u64, time: u64) -> usize
     requires { ⌜ CacheOk (now cache) n ⌝ }
-    ensures { λ r. ⌜ Pruned (now (cache .entry)) (now (cache .exit)) n r ttl time ⌝ }
+    ensures { λ r. ⌜ r ≤ n ⌝ }
+    ensures { λ r. ⌜ (CacheKept (now (cache .entry)) n → Pruned (now (cache .entry)) (now (cache .exit)) n r ttl time) ⌝ }
 {
-    let mut w = 0;
-    let mut r = 0;
-    while r < n {
-        if is_fresh(row_since(cache, r), ttl, time) {
-            move_row(cache, r, w);
-            w += 1;
-            r += 1;
-        } else {
-            r += 1;
-        }
+    if n == 0 {
+        return 0;
     }
-    w
+    let first = first_slot(cache, n);
+    if all_fresh(cache, first, n, ttl, time) {
+        return n;
+    }
+    let left = gather(cache, first, n, ttl, time);
+    put_first(cache, 0);
+    left
 }

@@ -1,12 +1,12 @@
 -- The walk by frames (docs/DECISIONS.md, D19). A frame stands for the parents that the inputs of its transaction in the first slots
 -- still give; the frames together stand for the stack of parents, the last frame on top. A turn looks at the last frame: it pops it, or visits its last parent.
-use Prim.Native.Nat.{ℕ, zero, suc, _+_, _-_, _<_}
+use Prim.Native.Nat.{ℕ, zero, suc, _+_, _-_, _≤_, _<_}
 use mathlib.Core.Path.{_≡_, refl, sym, ap}
 use mathlib.Core.Bool.{true}
 use mathlib.Core.List.{List, [], _∷_, _++_, reverseAux}
 use native.Mathlib.Omega.{arith}
 use lib.ListN.{length, take}
-use lib.Seq.{take-length}
+use lib.Seq.{take-all}
 use Rattle.entries.specs.Entries.{Entry, credit}
 use Rattle.words.specs.Lists.{flat}
 use Rattle.boxes.specs.Records.{BoxRec, index, lookup, inputsOf, parents}
@@ -19,9 +19,9 @@ use Rattle.family.specs.Frames.{Todo}
 abbrev pub todo : List BoxRec → Todo → List ℕ
 todo rs t = flat (lookup (index true rs)) (inputsOf (t .id) (take (t .bound) rs))
 
--- a frame with all inputs of a transaction
-abbrev pub whole : List BoxRec → ℕ → Todo
-whole rs k = record { id = k; bound = length rs }
+-- a frame of the inputs of a transaction in the first m slots: all, where there are no more slots
+abbrev pub whole : ℕ → ℕ → Todo
+whole m k = record { id = k; bound = m }
 
 -- the stack of parents that frames stand for, over a stack
 abbrev pub pending : List BoxRec → List Todo → List ℕ → List ℕ
@@ -32,7 +32,7 @@ pending rs (t ∷ ts) st = pending rs ts (reverseAux (todo rs t) st)
 abbrev pub rest : List BoxRec → ℕ → ℕ → List Todo → List Entry → List Entry
 rest rs c b ts es = credits c (visits b (parents rs) (pending rs ts [])) es
 
-pub visits-none : (f : ℕ → List ℕ) (b : ℕ) → visits b f [] ≡ []
+visits-none : (f : ℕ → List ℕ) (b : ℕ) → visits b f [] ≡ []
 visits-none f zero = refl
 visits-none f (suc b) = refl
 
@@ -41,12 +41,12 @@ module _ (rs : List BoxRec) (c : ℕ) where
   pending-last [] t st = refl
   pending-last (u ∷ ts) t st = pending-last ts t (reverseAux (todo rs u) st)
 
-  todo-whole : (k : ℕ) → todo rs (whole rs k) ≡ parents rs k
-  todo-whole k = rw (take-length rs)
+  todo-whole : (m : ℕ) → length rs ≤ m → (k : ℕ) → todo rs (whole m k) ≡ parents rs k
+  todo-whole m l k = rw (take-all m rs l)
 
   -- the newcomer's frame alone: the whole walk
-  pub rest-all : (b k : ℕ) (es : List Entry) → rest rs c b (whole rs k ∷ []) es ≡ credits c (walked (parents rs) b k) es
-  rest-all b k es = rw (todo-whole k)
+  pub rest-all : (m : ℕ) → length rs ≤ m → (b k : ℕ) (es : List Entry) → rest rs c b (whole m k ∷ []) es ≡ credits c (walked (parents rs) b k) es
+  rest-all m l b k es = rw (todo-whole m l k)
 
   -- no frame left
   pub rest-none : (b : ℕ) (es : List Entry) → rest rs c b [] es ≡ es
@@ -57,9 +57,9 @@ module _ (rs : List BoxRec) (c : ℕ) where
   rest-pop b ts t es h = rw (pending-last ts t [], h (pending rs ts []))
 
   -- a visit: the last parent of the last frame is credited, that frame keeps what is before it, and the parent's own frame comes on top
-  pub rest-visit : (b : ℕ) (ts : List Todo) (t u : Todo) (p : ℕ) (es : List Entry) → 0 < b → ((st : List ℕ) → reverseAux (todo rs t) st ≡ p ∷ reverseAux (todo rs u) st)
-      → rest rs c (b - 1) ((ts ++ (u ∷ [])) ++ (whole rs p ∷ [])) (credit c p es) ≡ rest rs c b (ts ++ (t ∷ [])) es
-  rest-visit b ts t u p es h q =
+  pub rest-visit : (m : ℕ) → length rs ≤ m → (b : ℕ) (ts : List Todo) (t u : Todo) (p : ℕ) (es : List Entry) → 0 < b → ((st : List ℕ) → reverseAux (todo rs t) st ≡ p ∷ reverseAux (todo rs u) st)
+      → rest rs c (b - 1) ((ts ++ (u ∷ [])) ++ (whole m p ∷ [])) (credit c p es) ≡ rest rs c b (ts ++ (t ∷ [])) es
+  rest-visit m l b ts t u p es h q =
       let e : b ≡ suc (b - 1) = omega arith in
-      rw (pending-last (ts ++ (u ∷ [])) (whole rs p) [], pending-last ts u [], todo-whole p, pending-last ts t [], q (pending rs ts []))
+      rw (pending-last (ts ++ (u ∷ [])) (whole m p) [], pending-last ts u [], todo-whole m l p, pending-last ts t [], q (pending rs ts []))
       (ap (λ (n : ℕ). credits c (visits n (parents rs) (p ∷ reverseAux (todo rs u) (pending rs ts []))) es) (sym e))

@@ -11,10 +11,12 @@ use pool_types::Counts;
 use words::ids::Id;
 ghost use Prim.Native.Nat.{_+_, _<_};
 ghost use Rattle.words.specs.Ids.{idOf};
-ghost use Rattle.boxes.specs.Layout.{rowsOf};
-ghost use Rattle.pool.specs.Pool.{PoolFits, Left, tablesOf};
+ghost use lib.ListN.{length};
+ghost use Rattle.entries.specs.Layout.{EntriesKept};
+ghost use Rattle.boxes.specs.Layout.{allRows};
+ghost use Rattle.pool.specs.Pool.{PoolFits, PoolKept, Left, tablesOf};
 ghost use Rattle.family.specs.Frames.{FramesOk, todoOf};
-ghost use Rattle.family.specs.Steps.{Visited, Turned};
+ghost use Rattle.family.specs.Steps.{Visited, Nearer, Turned};
 ghost use Rattle.family.specs.Family.{propagated};
 
 pub mod frames;
@@ -31,7 +33,7 @@ struct Progress {
     budget: usize,
 }
 
-// Credits a parent and opens a frame for it on top, above what is left of its child's.
+// Credits a parent and opens a frame for it on top, above what is left of its child's. No slot is at an index past the words.
 fn visit(
     entries: &mut [u64],
     boxes: &[u64],
@@ -44,11 +46,11 @@ fn visit(
 )
     requires { ⌜ PoolFits (now entries) (now boxes) counts ⌝ }
     requires { ⌜ (0 < depth) × FramesOk (now frames) (depth + 1) ⌝ }
-    ensures { λ _. ⌜ Visited (now (entries .entry)) (now (entries .exit)) (now (frames .entry)) (now (frames .exit)) (rowsOf (now (boxes .entry)) (counts .records)) (counts .pooled) depth amount (idOf parent) (todoOf child) ⌝ }
+    ensures { λ _. ⌜ (EntriesKept (now (entries .entry)) (counts .pooled) → Visited (now (entries .entry)) (now (entries .exit)) (now (frames .entry)) (now (frames .exit)) (length (now (boxes .entry))) (counts .pooled) depth amount (idOf parent) (todoOf child)) ⌝ }
 {
     credit_entry(entries, counts.pooled, parent, amount);
     store_frame(frames, depth - 1, child);
-    let bound = counts.records;
+    let bound = boxes.len();
     store_frame(frames, depth, Frame { id: parent, bound });
 }
 
@@ -63,7 +65,8 @@ fn turn(
 ) -> Progress
     requires { ⌜ PoolFits (now entries) (now boxes) counts ⌝ }
     requires { ⌜ (0 < w .depth) × FramesOk (now frames) (w .depth + w .budget) ⌝ }
-    ensures { λ r. ⌜ Turned (now (entries .entry)) (now (entries .exit)) (now (frames .entry)) (now (frames .exit)) (rowsOf (now (boxes .entry)) (counts .records)) (counts .pooled) amount w r ⌝ }
+    ensures { λ r. ⌜ Nearer w r ⌝ }
+    ensures { λ r. ⌜ (PoolKept (now (entries .entry)) (now (boxes .entry)) counts → Turned (now (entries .entry)) (now (entries .exit)) (now (frames .entry)) (now (frames .exit)) (allRows (now (boxes .entry)) (counts .records)) (counts .pooled) amount w r) ⌝ }
 {
     let top = load_frame(frames, w.depth - 1);
     match last_parent(boxes, counts.records, top.id, top.bound) {
@@ -109,9 +112,9 @@ fn walk(
 )
     requires { ⌜ PoolFits (now entries) (now boxes) counts ⌝ }
     requires { ⌜ FramesOk (now frames) (1 + cap) ⌝ }
-    ensures { λ _. ⌜ Left (now (entries .exit)) (now (boxes .entry)) counts (propagated cap amount (idOf id) (tablesOf (now (entries .entry)) (now (boxes .entry)) counts)) ⌝ }
+    ensures { λ _. ⌜ (PoolKept (now (entries .entry)) (now (boxes .entry)) counts → Left (now (entries .exit)) (now (boxes .entry)) counts (propagated cap amount (idOf id) (tablesOf (now (entries .entry)) (now (boxes .entry)) counts))) ⌝ }
 {
-    let bound = counts.records;
+    let bound = boxes.len();
     store_frame(frames, 0, Frame { id, bound });
     let mut w = Progress {
         depth: 1,
@@ -131,7 +134,7 @@ pub fn propagate_family_weight(
     amount: u64,
 )
     requires { ⌜ PoolFits (now entries) (now boxes) counts ⌝ }
-    ensures { λ _. ⌜ Left (now (entries .exit)) (now (boxes .entry)) counts (propagated 500 amount (idOf id) (tablesOf (now (entries .entry)) (now (boxes .entry)) counts)) ⌝ }
+    ensures { λ _. ⌜ (PoolKept (now (entries .entry)) (now (boxes .entry)) counts → Left (now (entries .exit)) (now (boxes .entry)) counts (propagated 500 amount (idOf id) (tablesOf (now (entries .entry)) (now (boxes .entry)) counts))) ⌝ }
 {
     let mut frames = [0u64; STACK_WORDS];
     walk(

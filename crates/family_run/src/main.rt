@@ -145,10 +145,10 @@ fn large(entries: &mut [u64], boxes: &mut [u64]) {
     capped(entries, boxes);
 }
 
-// One store for all of them.
+// One store for all of them, with room for 5 entries and 20 records.
 fn main() {
-    let mut entries = [0u64; 70];
-    let mut boxes = [0u64; 200];
+    let mut entries = [0u64; 92];
+    let mut boxes = [0u64; 327];
     small(&mut entries, &mut boxes);
     large(&mut entries, &mut boxes);
 }

@@ -26,7 +26,8 @@ use Rattle.pool_types.specs.declared.AnswerOutcome.the-variants.{InputMissing, 
 use Rattle.pool_types.specs.Outcomes.{Outcome, processedOf, returnedOf, invalidatedOf, blockOf, openedOf, nextOf, answeredOf, refused, done, wrote, needed, candidate, ended, missing, invalid, valid, number, said, entry, none}
 use Rattle.pool_types.specs.declared.Verdict.{Verdict}
 use Rattle.boxes.specs.Among.{among, among-cons}
-use Rattle.process.specs.Numbers.{refusals, ofSubmission}
+use Rattle.checks.specs.Numbers.{refusals}
+use Rattle.process.specs.Numbers.{ofSubmission}
 use Rattle.returns.specs.Numbers.{returnRefusals, ofReturn, ofInvalidation}
 use Rattle.blocks.specs.Numbers.{ofBlock}
 use Rattle.cleanup.specs.Numbers.{ofOpen, ofNext, ofAnswer}

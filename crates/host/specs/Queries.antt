@@ -18,7 +18,7 @@ use Rattle.pool_types.specs.declared.ListOutcome.{ListOutcome}
 use Rattle.pool_types.specs.declared.EntryOutcome.{EntryOutcome}
 use Rattle.pool_types.specs.declared.EntryOutcome.the-variants.{Entry, NoEntry, NotLooked}
 use Rattle.pool_types.specs.Outcomes.{Outcome, refused, done, wrote, needed, candidate, ended, missing, invalid, valid, number, said, entry, none, listedOf, lookedOf}
-use Rattle.mempool.specs.Queries.{spendingOf}
+use Rattle.mempool.specs.Queries.{spendingOf, spendingWith, entrySeen}
 use Rattle.mempool.specs.Listing.{Row, rows, rowWords, Laid, Listing, listing, topOf, Topped, RowPut, row-put, laid-none}
 use Rattle.host.specs.State.{stateOf}
 
@@ -79,12 +79,19 @@ rowsIn (said b) = []
 rowsIn (entry k w b) = record { id = k; weight = w; base = b } ∷ []
 rowsIn none = []
 
--- a state of too few words is refused with 1, an answer buffer of less than a row with 2
-unfoldable pub spentOf : List ℕ → List ℕ → List ℕ → ℕ → ℕ → Listing
-spentOf e b s words box =
+-- a state of too few words is refused with 1, an answer buffer of less than a row with 2; else what f says of the state
+unfoldable pub spentBy : (Mempool → Outcome) → List ℕ → ℕ → Listing
+spentBy f s words =
     pick (ltb (length s) 25) (listing (refused 1 0) [])
     (pick (ltb words 6) (listing (refused 2 0) [])
-    (listing (spendingOf e b (stateOf s) box) (rowsIn (spendingOf e b (stateOf s) box))))
+    (listing (f (stateOf s)) (rowsIn (f (stateOf s)))))
+
+-- the transaction that spends a box; and on any words, where o was seen
+abbrev pub spentOf : List ℕ → List ℕ → List ℕ → ℕ → ℕ → Listing
+spentOf e b s words box = spentBy (λ st. spendingOf e b st box) s words
+
+abbrev pub spentWith : List ℕ → List ℕ → List ℕ → ℕ → EntryOutcome → Listing
+spentWith e b s words o = spentBy (λ st. spendingWith e b st (entrySeen o)) s words
 
 -- the first entries, as `top` lists them
 unfoldable pub toppedOf : List ℕ → List ℕ → ℕ → ℕ → Listing
@@ -112,28 +119,28 @@ first-row l x w b h =
     let p : RowPut l (stored l 0 (rowWords x w b)) 0 r = row-put l 0 x w b r h refl refl refl in
     record { kept = p .kept; rows = put-end rows l (stored l 0 (rowWords x w b)) 0 r (p .rows) ∙ rw (of-none rows l); rest = p .rest }
 
-module _ (e b s a : List ℕ) (box : ℕ) where
-  pub spent-short : length s < 25 → Rows a a (cap - 1) (spentOf e b s (length a) box)
-  unfolding spentOf
+module _ (f : Mempool → Outcome) (s a : List ℕ) where
+  pub spent-short : length s < 25 → Rows a a (cap - 1) (spentBy f s (length a))
+  unfolding spentBy
   spent-short h = rows-refused a 1 _ (rw (lt-ltb _ _ h))
 
-  pub spent-room : 25 ≤ length s → length a < 6 → Rows a a (cap - 2) (spentOf e b s (length a) box)
-  unfolding spentOf
+  pub spent-room : 25 ≤ length s → length a < 6 → Rows a a (cap - 2) (spentBy f s (length a))
+  unfolding spentBy
   spent-room h g = rows-refused a 2 _ (rw (le-ltb _ _ h, lt-ltb _ _ g))
 
-  module _ (h : 25 ≤ length s) (g : 6 ≤ length a) {st : Mempool} (o : EntryOutcome) (q : st ≡ stateOf s) (r : lookedOf o ≡ spendingOf e b st box) where
-    is : spentOf e b s (length a) box ≡ listing (lookedOf o) (rowsIn (lookedOf o))
-    unfolding spentOf
+  module _ (h : 25 ≤ length s) (g : 6 ≤ length a) {st : Mempool} (o : EntryOutcome) (q : st ≡ stateOf s) (r : lookedOf o ≡ f st) where
+    is : spentBy f s (length a) ≡ listing (lookedOf o) (rowsIn (lookedOf o))
+    unfolding spentBy
     is = rw (le-ltb (length s) 25 h, le-ltb (length a) 6 g, ← q, ← r)
 
-    pub spent-entry : (a' : List ℕ) (x : Id) (w v : ℕ) → o ≡ Entry x w v → a' ≡ stored a 0 (rowWords x w v) → Rows a a' 1 (spentOf e b s (length a) box)
+    pub spent-entry : (a' : List ℕ) (x : Id) (w v : ℕ) → o ≡ Entry x w v → a' ≡ stored a 0 (rowWords x w v) → Rows a a' 1 (spentBy f s (length a))
     unfolding queryOf lookedOf
     spent-entry a' x w v d z = rw (is, d, z) (record { answered = refl; answer = first-row a x w v g })
 
-    pub spent-none : o ≡ NoEntry → Rows a a 0 (spentOf e b s (length a) box)
+    pub spent-none : o ≡ NoEntry → Rows a a 0 (spentBy f s (length a))
     unfolding queryOf lookedOf
     spent-none d = rw (is, d) (record { answered = refl; answer = laid-none a })
 
-    pub spent-refused : (n : ℕ) → o ≡ NotLooked n → Rows a a (cap - n) (spentOf e b s (length a) box)
+    pub spent-refused : (n : ℕ) → o ≡ NotLooked n → Rows a a (cap - n) (spentBy f s (length a))
     unfolding lookedOf
     spent-refused n d = rows-refused a n _ (is ∙ rw d)

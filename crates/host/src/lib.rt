@@ -38,13 +38,15 @@
 //     u64 gunthyd_pool_histogram_at(const u64 *entries, size_t entries_len, const u64 *state, size_t state_len, u64 *answer, size_t answer_len,
 //                                   u64 time, uint32_t bins, u64 longest);
 //
-// a, b, c, d are an id's four words, the first bytes first. Lent tables: entries 14 words each, boxes 10, cache 5, peers 2 (docs/DECISIONS.md, D1).
+// a, b, c, d are an id's four words, the first bytes first. Lent tables: 18 E + 2 words for E entries, 13 S + 2 for R box
+// records and 7 S + 2 for K cached ids, where S is 5/4 of R or K, rounded up, and 2 for each of 256 peers (docs/DECISIONS.md, D1). The last word of
+// each of the first three is the key of its buckets: a number that peers do not know, put there before the start (D9c).
 // Lists: inputs 4 words each; outputs 7 of a submission, 5 of a return; transactions of a block 5 (D3, D4); flags, one word for each input of the
 // candidate, 0 for not confirmed; confirmed boxes 4. A verdict and its cost are two words as in a submission.
 //
 //     state, 25 words                                   a submission, 11 words
 //      0 capacity               9 pooled                 0 time
-//      1 min_fee               10 box slots              1 to 4 id
+//      1 min_fee               10 box records            1 to 4 id
 //      2 strategy: 0 by byte   11 cached                 5 size
 //      3 cleanup_interval      12 interblock_cost        6 preheader (low 32 bits)
 //      4 rebroadcast_count     13 peers in use           7 source: 0 local, else a peer
@@ -107,10 +109,12 @@ use process::flat::process_words;
 use weight::fee_per_factor;
 use words::ids::Id;
 ghost use mathlib.Core.Path.{_≡_};
-ghost use Prim.Native.Nat.{_≤_};
+ghost use Prim.Native.Nat.{_≤_, _<_};
 ghost use lib.ListN.{length};
 ghost use Rattle.weight.specs.Weight.{feePerFactor};
+ghost use Rattle.words.specs.Sums.{cap};
 ghost use Rattle.words.specs.Ids.{idOf};
+ghost use Rattle.entries.specs.Layout.{entriesRoom, EntriesKept};
 ghost use Rattle.host.specs.Host.{strategyOf, rankOf};
 ghost use Rattle.host.specs.Calls.{lent, Ran, Submitted};
 ghost use Rattle.host.specs.Starts.{Started};
@@ -136,7 +140,8 @@ pub extern "C" fn gunthyd_find_entry(
     c: u64,
     d: u64,
 ) -> u64
-    ensures { λ r. ⌜ r ≡ rankOf (now (entries .entry)) pooled (idOf (record { a = a; b = b; c = c; d = d })) ⌝ }
+    ensures { λ r. ⌜ (entriesRoom (now (entries .entry)) < pooled → r ≡ cap) × ((r ≡ cap → ⊥) → r < pooled) ⌝ }
+    ensures { λ r. ⌜ (EntriesKept (now (entries .entry)) pooled → r ≡ rankOf (now (entries .entry)) pooled (idOf (record { a = a; b = b; c = c; d = d }))) ⌝ }
 {
     if entries_room(entries) < pooled {
         return u64::MAX;

@@ -16,10 +16,15 @@ ghost use lib.ListN.{length};
 ghost use Rattle.words.specs.Ids.{idOf};
 ghost use Rattle.words.specs.Rows.{stored};
 ghost use Rattle.pool_types.specs.Outcomes.{number};
-ghost use Rattle.mempool.specs.Queries.{containsOf};
+ghost use Rattle.pool_types.specs.declared.TestOutcome.{TestOutcome};
+ghost use Rattle.pool_types.specs.declared.EntryOutcome.{EntryOutcome};
+ghost use Rattle.entries.specs.Layout.{EntriesKept};
+ghost use Rattle.boxes.specs.Index.{BoxesKept};
+ghost use Rattle.expiring_cache.specs.Layout.{CacheKept};
+ghost use Rattle.mempool.specs.Queries.{containsOf, containsWith, testSaid};
 ghost use Rattle.mempool.specs.Listing.{rowWords};
 ghost use Rattle.host.specs.State.{stateOf};
-ghost use Rattle.host.specs.Queries.{queried, Rows, spentOf, toppedOf};
+ghost use Rattle.host.specs.Queries.{queried, Rows, spentOf, spentWith, toppedOf};
 
 const ROW_WORDS: usize = 6;
 
@@ -46,7 +51,9 @@ pub extern "C" fn gunthyd_contains(
     c: u64,
     d: u64,
 ) -> u64
-    ensures { λ r. ⌜ r ≡ queried (now (state .entry)) (containsOf (now (entries .entry)) (now (cache .entry)) (stateOf (now (state .entry))) time (idOf (record { a = a; b = b; c = c; d = d }))) ⌝ }
+    ensures { λ r. ⌜ ((o : TestOutcome) × (r ≡ queried (now (state .entry)) (containsWith (now (entries .entry)) (now (cache .entry)) (stateOf (now (state .entry))) (testSaid o)))) ⌝ }
+    ensures { λ r. ⌜ (EntriesKept (now (entries .entry)) (stateOf (now (state .entry)) .counts .pooled) → CacheKept (now (cache .entry)) (stateOf (now (state .entry)) .cached)
+        → r ≡ queried (now (state .entry)) (containsOf (now (entries .entry)) (now (cache .entry)) (stateOf (now (state .entry))) time (idOf (record { a = a; b = b; c = c; d = d })))) ⌝ }
 {
     if state.len() < STATE_WORDS {
         return u64::MAX - 1;
@@ -77,7 +84,9 @@ pub extern "C" fn gunthyd_spending_tx(
     c: u64,
     d: u64,
 ) -> u64
-    ensures { λ r. ⌜ Rows (now (answer .entry)) (now (answer .exit)) r (spentOf (now (entries .entry)) (now (boxes .entry)) (now (state .entry)) (length (now (answer .entry))) (idOf (record { a = a; b = b; c = c; d = d }))) ⌝ }
+    ensures { λ r. ⌜ ((o : EntryOutcome) × Rows (now (answer .entry)) (now (answer .exit)) r (spentWith (now (entries .entry)) (now (boxes .entry)) (now (state .entry)) (length (now (answer .entry))) o)) ⌝ }
+    ensures { λ r. ⌜ (EntriesKept (now (entries .entry)) (stateOf (now (state .entry)) .counts .pooled) → BoxesKept (now (boxes .entry)) (stateOf (now (state .entry)) .counts .records)
+        → Rows (now (answer .entry)) (now (answer .exit)) r (spentOf (now (entries .entry)) (now (boxes .entry)) (now (state .entry)) (length (now (answer .entry))) (idOf (record { a = a; b = b; c = c; d = d })))) ⌝ }
 {
     if state.len() < STATE_WORDS {
         return u64::MAX - 1;

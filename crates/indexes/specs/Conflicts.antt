@@ -10,7 +10,7 @@ use lib.Seq.{drop-drop, drop-set-lt}
 use borrow.Author.Tests.{not-true, not-false}
 use Rattle.words.specs.Lists.{count, flat}
 use Rattle.words.specs.Rows.{stored}
-use Rattle.words.specs.Tables.{drop-of, drop-past, of-none, put-end}
+use Rattle.words.specs.Tables.{drop-of, drop-past, put-end}
 use Rattle.words.specs.Ids.{idOf, idAt, idWords}
 use Rattle.words.specs.declared.ids.Id.{Id}
 use Rattle.boxes.specs.Records.{Pair, lookup, once, dedup, conflicts}
@@ -73,11 +73,6 @@ added-by l m n r o x e q a = rw (← e, q) a
 pub added-nobody : (l : List ℕ) (n : ℕ) (o : Owner) {ks : List ℕ} → ownerIds o ≡ ks → o ≡ Nobody → Added l l n n ks
 added-nobody l n o e q = rw (← e, q) (added-none l n)
 
--- ---- none has a spender: nothing is written
-
-pub listed-none : (l : List ℕ) (n : ℕ) (ks : List ℕ) → ks ≡ [] → Listed l l n 0 ks
-listed-none l n ks e = record { kept = refl; high = omega arith; count = rw e; rows = of-none (ids 4) l ∙ sym e; rest = refl }
-
 -- ---- input by input
 
 dedup-append : (a b seen : List ℕ) → dedup (a ++ b) seen ≡ dedup b (dedup a seen)
@@ -89,35 +84,37 @@ drop-more l m a b h e =
     let q : b ≡ a + (b - a) = omega arith in
     rw q (sym (drop-drop (b - a) a l) ∙ ap (drop (b - a)) e ∙ drop-drop (b - a) a m)
 
--- of j inputs done n ids are listed: what is left to do gives what all of them give
-pub record Listing (ps : List Pair) (W : ℕ) (inputs l₀ l : List ℕ) (j n : ℕ) : Type 0 where
+-- of j inputs done n ids are listed: where the index is right (K), what is left to do gives what all of them give
+pub record Listing (K : Type 0) (ps : List Pair) (W : ℕ) (inputs l₀ l : List ℕ) (j n : ℕ) : Type 0 where
   pub done : j ≤ countOf W inputs
   pub high : n ≤ j
   pub kept : length l ≡ length l₀
-  pub rows : dedup (flat (lookup ps) (drop j (idsOf W inputs))) (idsTo 4 l n) ≡ conflicts ps (idsOf W inputs)
-  pub rest : drop (n * 4) l ≡ drop (n * 4) l₀
+  pub rows : K → dedup (flat (lookup ps) (drop j (idsOf W inputs))) (idsTo 4 l n) ≡ conflicts ps (idsOf W inputs)
+  pub rest : K → drop (n * 4) l ≡ drop (n * 4) l₀
 
-module _ (ps : List Pair) (W : ℕ) (inputs : List ℕ) where
-  pub list-none : (l : List ℕ) → Listing ps W inputs l l 0 0
+module _ (K : Type 0) (ps : List Pair) (W : ℕ) (inputs : List ℕ) where
+  pub list-none : (l : List ℕ) → Listing K ps W inputs l l 0 0
   unfolding idsTo
-  list-none l = record { done = omega arith; high = omega arith; kept = refl; rows = refl; rest = refl }
+  list-none l = record { done = omega arith; high = omega arith; kept = refl; rows = λ x. refl; rest = λ x. refl }
 
-  pub list-more : (l₀ l m : List ℕ) (j n r x : ℕ) → j < countOf W inputs → length m ≡ length l → x ≡ idAt inputs (j * W) → Listing ps W inputs l₀ l j n → Added l m n r (lookup ps x) → Listing ps W inputs l₀ m (j + 1) r
-  list-more l₀ l m j n r x h g e k a =
+  pub list-more : (l₀ l m : List ℕ) (j n r y : ℕ) → j < countOf W inputs → length m ≡ length l → y ≡ idAt inputs (j * W) → Listing K ps W inputs l₀ l j n → r ≤ n + 1 → (K → Added l m n r (lookup ps y))
+      → Listing K ps W inputs l₀ m (j + 1) r
+  list-more l₀ l m j n r y h g e k b a =
       record {
         done = omega arith;
-        high = omega (arith, a .high, k .high);
+        high = omega (arith, k .high);
         kept = g ∙ k .kept;
         rows =
-            ap (dedup (flat (lookup ps) (drop (j + 1) (idsOf W inputs)))) (a .rows ∙ rw e)
+            λ x.
+            ap (dedup (flat (lookup ps) (drop (j + 1) (idsOf W inputs)))) (a x .rows ∙ rw e)
             ∙ sym (dedup-append (lookup ps (idAt inputs (j * W))) (flat (lookup ps) (drop (j + 1) (idsOf W inputs))) (idsTo 4 l n))
             ∙ ap (λ bs. dedup (flat (lookup ps) bs) (idsTo 4 l n)) (sym (drop-of (ids W) inputs (countOf W inputs) j h))
-            ∙ k .rows;
-        rest = a .rest ∙ drop-more l l₀ (n * 4) (r * 4) (omega (arith, a .low)) (k .rest);
+            ∙ k .rows x;
+        rest = λ x. a x .rest ∙ drop-more l l₀ (n * 4) (r * 4) (omega (arith, a x .low)) (k .rest x);
       }
 
-  pub list-all : (l₀ l : List ℕ) (j n : ℕ) → countOf W inputs ≤ j → Listing ps W inputs l₀ l j n → Listed l₀ l (countOf W inputs) n (conflicts ps (idsOf W inputs))
-  list-all l₀ l j n h k =
+  pub list-all : (l₀ l : List ℕ) (j n : ℕ) → countOf W inputs ≤ j → Listing K ps W inputs l₀ l j n → K → Listed l₀ l (countOf W inputs) n (conflicts ps (idsOf W inputs))
+  list-all l₀ l j n h k x =
       let e : idsTo 4 l n ≡ conflicts ps (idsOf W inputs) =
-      ap (λ bs. dedup (flat (lookup ps) bs) (idsTo 4 l n)) (sym (drop-past (ids W) inputs (countOf W inputs) j h)) ∙ k .rows in
-      record { kept = k .kept; high = omega (arith, k .high, k .done); count = sym (ids 4 .len l n) ∙ ap length e; rows = e; rest = k .rest }
+      ap (λ bs. dedup (flat (lookup ps) bs) (idsTo 4 l n)) (sym (drop-past (ids W) inputs (countOf W inputs) j h)) ∙ k .rows x in
+      record { kept = k .kept; high = omega (arith, k .high, k .done); count = sym (ids 4 .len l n) ∙ ap length e; rows = e; rest = k .rest x }

@@ -127,14 +127,6 @@ module _ (f : ℕ → List ℕ) (one : AtMostOne f) (k : ℕ) where
   last-none rs n e =
       sym (by-input (take n rs)) ∙ ⊎-elim (λ h. h .0) (λ t. absurd (cons≢nil (sym (t .found) ∙ e))) (tops (ofInput f k) one-input 0 (take n rs) [])
 
-  -- and where there is none the answer is none
-  pub none-last : (rs : List BoxRec) → flat f (inputsOf k rs) ≡ [] → lastFrom (ofInput f k) 0 rs [] ≡ []
-  none-last rs e = ⊎-elim (λ h. h .1) (λ t. absurd (no-end (flat (ofInput f k) (take (t .at) rs)) (t .parent) (sym (t .rows) ∙ by-input rs ∙ e))) (tops (ofInput f k) one-input 0 rs [])
-    where
-      no-end : (l : List ℕ) (x : ℕ) → l ++ (x ∷ []) ≡ [] → ⊥
-      no-end [] x q = cons≢nil q
-      no-end (y ∷ l) x q = cons≢nil q
-
   pub last-some : (rs : List BoxRec) (n p i : ℕ) → lastParent f k rs n ≡ record { parent = p; at = i } ∷ [] → (i < n) × (flat f (inputsOf k (take n rs)) ≡ flat f (inputsOf k (take i rs)) ++ (p ∷ []))
   last-some rs n p i e = ⊎-elim (λ h. absurd (cons≢nil (sym e ∙ h .1))) here (tops (ofInput f k) one-input 0 (take n rs) [])
     where

@@ -1,25 +1,24 @@
 -- Inputs that are found: confirmed, as the caller says, or in the producer index. Document 01, refusal 28: "an input neither confirmed nor in the
 -- producer index"; and of an answer: "an input found nowhere".
-use Prim.Native.Nat.{ℕ, zero, suc, _+_, _*_, _/_, _≤_, _<_}
+use Prim.Native.Nat.{ℕ, suc, _+_, _*_, _/_, _≤_, _<_}
 use mathlib.Core.Path.{_≡_, refl, sym, ap, _∙_}
 use mathlib.Core.Bool.{Bool, true, false, _&&_, _||_}
-use mathlib.Core.List.{List, [], _∷_, map}
-use native.Mathlib.Numerals.{add-one}
+use mathlib.Core.List.{List, [], _∷_, _++_}
 use native.Mathlib.Omega.{arith}
-use lib.ListN.{length, getD, drop}
-use lib.Seq.{drop-cons}
+use lib.ListN.{length, getD, take, drop, length-append, length-take}
+use lib.Seq.{take-length, take-suc}
 use borrow.Author.Tests.{eq-eqb, ne-eqb}
 use Rattle.words.specs.Rows.{tab, length-tab, getD-tab, take-tab}
 use Rattle.words.specs.Tables.{Table, drop-of, drop-past}
 use Rattle.words.specs.Ids.{idAt}
-use Rattle.words.specs.declared.ids.Id.{Id}
-use Rattle.boxes.specs.Records.{Pair, lookup, isInput, inputsOf}
-use Rattle.boxes.specs.Flat.{idsTo, idsOf}
-use Rattle.boxes.specs.Layout.{isSet, boxAt, boxesOf, rowsOf, inputs-rows}
-use Rattle.indexes.specs.declared.owners.Owner.{Owner}
-use Rattle.indexes.specs.declared.owners.Owner.the-variants.{By, Nobody}
-use Rattle.indexes.specs.Owners.{ownerIds}
-use Rattle.indexes.specs.Inputs.{input-yes, input-no, input-end}
+use Rattle.boxes.specs.Records.{Pair, lookup, inputsOf}
+use Rattle.boxes.specs.Layout.{BoxesOk, isSet, boxAt, boxesOf, allRows}
+use Rattle.boxes.specs.Index.{BoxesKept}
+use Rattle.boxes.specs.Searching.{InputAt, LastInput}
+use Rattle.boxes.specs.declared.links.Slot.{Slot}
+use Rattle.boxes.specs.declared.links.Slot.the-variants.{At, Nowhere}
+use Rattle.indexes.specs.Owners.{isFound}
+use Rattle.indexes.specs.Inputs.{inputs-all, inputs-at, inputs-no}
 
 pub record Input : Type 0 where
   pub box : ℕ
@@ -28,10 +27,6 @@ pub record Input : Type 0 where
 -- a flag is set where its word is not 0
 abbrev pub inputOf : ℕ → ℕ → Input
 inputOf b w = record { box = b; confirmed = isSet w }
-
-abbrev pub isFound : List ℕ → Bool
-isFound [] = false
-isFound (k ∷ ks) = true
 
 unfoldable pub resolvedBy : List Pair → Input → Bool
 resolvedBy producers i = i .confirmed || isFound (lookup producers (i .box))
@@ -68,13 +63,9 @@ module _ (producers : List Pair) (b w : ℕ) where
   unfolding resolvedBy
   resolved-flag h = rw (ne-eqb w 0 h)
 
-  pub resolved-by : (o : Owner) (x : Id) → w ≡ 0 → ownerIds o ≡ lookup producers b → o ≡ By x → true ≡ resolvedBy producers (inputOf b w)
+  pub resolved-found : (t : Bool) → w ≡ 0 → t ≡ isFound (lookup producers b) → t ≡ resolvedBy producers (inputOf b w)
   unfolding resolvedBy
-  resolved-by o x h e q = rw (eq-eqb w 0 h, ← e, q)
-
-  pub resolved-not : (o : Owner) → w ≡ 0 → ownerIds o ≡ lookup producers b → o ≡ Nobody → false ≡ resolvedBy producers (inputOf b w)
-  unfolding resolvedBy
-  resolved-not o h e q = rw (eq-eqb w 0 h, ← e, q)
+  resolved-found t h e = rw (eq-eqb w 0 h) e
 
 -- ---- the inputs of a submission, one by one
 
@@ -82,63 +73,102 @@ pub inputs : Table inputsTo inputAt
 unfolding inputsTo
 inputs = record { len = λ l n. length-tab (inputAt l) n; get = λ l n i d h. getD-tab (inputAt l) n i d h; first = λ l k n h. take-tab (inputAt l) k n h }
 
--- their boxes are the ids of the list
-tab-boxes : (f : ℕ → Input) (g : ℕ → ℕ) (n : ℕ) → ((i : ℕ) → f i .box ≡ g i) → map (λ i. i .box) (tab f n) ≡ tab g n
-tab-boxes f g zero h = refl
-tab-boxes f g (suc n) h = λ t. h zero t ∷ tab-boxes (λ i. f (suc i)) (λ i. g (suc i)) n (λ i. h (suc i)) t
+-- where the index of producers is right (K), the inputs from the j-th on say what all say
+pub record Submitting (K : Type 0) (producers : List Pair) (l : List ℕ) (j : ℕ) : Type 0 where
+  pub same : K → allResolved producers (drop j (submitted l)) ≡ allResolved producers (submitted l)
 
-pub submitted-boxes : (l : List ℕ) → map (λ i. i .box) (submitted l) ≡ idsOf 5 l
-unfolding inputsTo inputAt idsTo
-submitted-boxes l = tab-boxes (inputAt l) (λ i. idAt l (i * 5)) (length l / 5) (λ i. refl)
+module _ (K : Type 0) (producers : List Pair) (l : List ℕ) where
+  pub submit-first : Submitting K producers l 0
+  submit-first = record { same = λ k. refl }
 
-module _ (producers : List Pair) (l : List ℕ) (n j x : ℕ) (h : j < n) (e : x ≡ idAt l (j * 5)) where
-  submitted-here : allResolved producers (drop j (inputsTo l n)) ≡ (resolvedBy producers (inputOf x (getD l (j * 5 + 4) 0)) && allResolved producers (drop (j + 1) (inputsTo l n)))
-  unfolding inputAt
-  submitted-here = rw (drop-of inputs l n j h, e)
+  pub submit-end : (j : ℕ) → length l / 5 ≤ j → Submitting K producers l j → K → true ≡ allResolved producers (submitted l)
+  submit-end j h s k = ap (allResolved producers) (sym (drop-past inputs l (length l / 5) j h)) ∙ s .same k
 
-  pub submitted-fails : resolvedBy producers (inputOf x (getD l (j * 5 + 4) 0)) ≡ false → allResolved producers (drop j (inputsTo l n)) ≡ false
-  submitted-fails q = submitted-here ∙ rw q
+  module _ (j y : ℕ) (t : Bool) (h : j < length l / 5) (e : y ≡ idAt l (j * 5)) (s : Submitting K producers l j) (f : K → t ≡ resolvedBy producers (inputOf y (getD l (j * 5 + 4) 0))) where
+    here : K → (t && allResolved producers (drop (j + 1) (submitted l))) ≡ allResolved producers (submitted l)
+    unfolding inputAt
+    here k =
+        ap (λ (u : Bool). u && allResolved producers (drop (j + 1) (submitted l))) (f k ∙ ap (λ (b : ℕ). resolvedBy producers (inputOf b (getD l (j * 5 + 4) 0))) e)
+        ∙ ap (allResolved producers) (sym (drop-of inputs l (length l / 5) j h))
+        ∙ s .same k
 
-  pub submitted-goes-on : resolvedBy producers (inputOf x (getD l (j * 5 + 4) 0)) ≡ true → allResolved producers (drop j (inputsTo l n)) ≡ allResolved producers (drop (j + 1) (inputsTo l n))
-  submitted-goes-on q = submitted-here ∙ rw q
+    pub submit-fails : t ≡ false → K → false ≡ allResolved producers (submitted l)
+    submit-fails q k = ap (λ (u : Bool). u && allResolved producers (drop (j + 1) (submitted l))) (sym q) ∙ here k
 
-pub submitted-end : (producers : List Pair) (l : List ℕ) (n j : ℕ) → n ≤ j → allResolved producers (drop j (inputsTo l n)) ≡ true
-submitted-end producers l n j h = rw (drop-past inputs l n j h)
+    pub submit-on : t ≡ true → Submitting K producers l (j + 1)
+    submit-on q = record { same = λ k. ap (λ (u : Bool). u && allResolved producers (drop (j + 1) (submitted l))) (sym q) ∙ here k }
 
--- ---- the inputs of a pooled transaction with the flags ws, slot by slot: i slots are read, and j flags
+-- ---- the inputs of a pooled transaction with the flags ws, from the last down: those before slot `at` have the first j flags
 
-pub record Reading (producers : List Pair) (l ws : List ℕ) (used k i j : ℕ) : Type 0 where
-  pub left : j + length (inputsOf k (drop i (rowsOf l used))) ≡ length ws
-  pub same : allResolved producers (flagged (inputsOf k (drop i (rowsOf l used))) (drop j ws)) ≡ allResolved producers (flagged (inputsOf k (boxesOf l used)) ws)
+flagged-snoc : (bs us : List ℕ) (b w : ℕ) → length us ≡ length bs → flagged (bs ++ (b ∷ [])) (us ++ (w ∷ [])) ≡ flagged bs us ++ (inputOf b w ∷ [])
+flagged-snoc [] [] b w e = refl
+flagged-snoc [] (u ∷ us) b w e = absurd (omega arith)
+flagged-snoc (c ∷ bs) [] b w e = absurd (omega arith)
+flagged-snoc (c ∷ bs) (u ∷ us) b w e = ap (λ (r : List Input). inputOf c u ∷ r) (flagged-snoc bs us b w (omega arith))
 
-module _ (producers : List Pair) (l ws : List ℕ) (used k : ℕ) where
-  pub read-none : length ws ≡ length (inputsOf k (boxesOf l used)) → Reading producers l ws used k 0 0
-  read-none e = record { left = omega (arith, ap length (inputs-rows k l used)); same = ap (λ bs. allResolved producers (flagged bs ws)) (inputs-rows k l used) }
+resolved-snoc : (producers : List Pair) (is : List Input) (i : Input) → allResolved producers (is ++ (i ∷ [])) ≡ (resolvedBy producers i && allResolved producers is)
+resolved-snoc producers [] i = refl
+resolved-snoc producers (j ∷ is) i = rw (resolved-snoc producers is i) (go (resolvedBy producers j) (resolvedBy producers i))
+  where
+    go : (t u : Bool) → (t && (u && allResolved producers is)) ≡ (u && (t && allResolved producers is))
+    go true u = refl
+    go false true = refl
+    go false false = refl
 
-  pub read-end : (i j : ℕ) → used ≤ i → Reading producers l ws used k i j → true ≡ allResolved producers (flagged (inputsOf k (boxesOf l used)) ws)
-  read-end i j h r = ap (λ bs. allResolved producers (flagged bs (drop j ws))) (sym (input-end l used i h k)) ∙ r .same
+-- there is a flag for each input
+abbrev Flags : List ℕ → ℕ → ℕ → List ℕ → Type 0
+Flags l n k ws = length ws ≡ length (inputsOf k (boxesOf l n))
 
-  module _ (i j : ℕ) (h : i < used) (r : Reading producers l ws used k i j) where
-    pub read-pass : isInput k (boxAt l i) ≡ false → Reading producers l ws used k (i + 1) j
-    read-pass t =
-        record {
-          left = ap (λ bs. j + length bs) (sym (input-no l used i h k t)) ∙ r .left;
-          same = ap (λ bs. allResolved producers (flagged bs (drop j ws))) (sym (input-no l used i h k t)) ∙ r .same;
-        }
+pub record Reading (producers : List Pair) (ws l : List ℕ) (n k at j : ℕ) : Type 0 where
+  pub low : j ≤ length ws
+  pub left : BoxesKept l n → Flags l n k ws → j ≡ length (inputsOf k (take at (allRows l n)))
+  pub same : BoxesKept l n → Flags l n k ws → allResolved producers (flagged (inputsOf k (take at (allRows l n))) (take j ws)) ≡ allResolved producers (flagged (inputsOf k (boxesOf l n)) ws)
 
-    module _ (t : isInput k (boxAt l i) ≡ true) where
-      pub read-more : j < length ws
-      read-more = omega (arith, r .left, ap length (input-yes l used i h k t))
+module _ (producers : List Pair) (ws l : List ℕ) (n k : ℕ) where
+  pub read-first : BoxesOk l n → Reading producers ws l n k (length l) (length ws)
+  read-first ok =
+      let e = inputs-all l n k (length l) ok (omega arith) in
+      record {
+        low = omega arith;
+        left = λ x f. f ∙ ap length (sym e);
+        same = λ x f. (λ t. allResolved producers (flagged (e t) (take-length ws t)));
+      }
 
-      module _ (x : ℕ) (e : x ≡ boxAt l i .box) where
-        read-here : allResolved producers (flagged (inputsOf k (boxesOf l used)) ws) ≡ (resolvedBy producers (inputOf x (getD ws j 0)) && allResolved producers (flagged (inputsOf k (drop (i + 1) (rowsOf l used))) (drop (j + 1) ws)))
-        read-here =
-            sym (r .same)
-            ∙ ap (λ bs. allResolved producers (flagged bs (drop j ws))) (input-yes l used i h k t)
-            ∙ rw (add-one j, drop-cons ws j 0 read-more, ← e)
+  pub read-end : (at j : ℕ) → at ≤ 0 → Reading producers ws l n k at j → BoxesKept l n → Flags l n k ws → true ≡ allResolved producers (flagged (inputsOf k (boxesOf l n)) ws)
+  read-end at j h r x f =
+      let e : at ≡ 0 = omega arith in
+      ap (λ (i : ℕ). allResolved producers (flagged (inputsOf k (take i (allRows l n))) (take j ws))) (sym e) ∙ r .same x f
 
-        pub read-fails : resolvedBy producers (inputOf x (getD ws j 0)) ≡ false → false ≡ allResolved producers (flagged (inputsOf k (boxesOf l used)) ws)
-        read-fails q = sym (read-here ∙ rw q)
+  module _ (at j : ℕ) (s : Reading producers ws l n k at j) (r : Slot) (some : InputAt l k at r) (last : BoxesKept l n → LastInput l n k at r) where
+    pub read-none : r ≡ Nowhere → BoxesKept l n → Flags l n k ws → true ≡ allResolved producers (flagged (inputsOf k (boxesOf l n)) ws)
+    read-none e x f = ap (λ (bs : List ℕ). allResolved producers (flagged bs (take j ws))) (sym (inputs-no l n k at r some last e x)) ∙ s .same x f
 
-        pub read-on : resolvedBy producers (inputOf x (getD ws j 0)) ≡ true → Reading producers l ws used k (i + 1) (j + 1)
-        read-on q = record { left = omega (arith, r .left, ap length (input-yes l used i h k t)); same = sym (read-here ∙ rw q) }
+    module _ (i : ℕ) (e : r ≡ At i) where
+      -- there is a flag for this one
+      count : BoxesKept l n → Flags l n k ws → j ≡ length (inputsOf k (take i (allRows l n))) + 1
+      count x f = s .left x f ∙ ap length (inputs-at l n k at r some last i e x) ∙ length-append (inputsOf k (take i (allRows l n))) (boxAt l i .box ∷ [])
+
+      pub read-flag : j ≡ 0 → (t : Bool) → BoxesKept l n → Flags l n k ws → t ≡ allResolved producers (flagged (inputsOf k (boxesOf l n)) ws)
+      read-flag z t x f = absurd (omega (arith, count x f))
+
+      module _ (h y : ℕ) (z : j ≡ suc h) (b : y ≡ boxAt l i .box) (t : Bool) (d : BoxesKept l n → t ≡ resolvedBy producers (inputOf y (getD ws h 0))) where
+        step : BoxesKept l n → Flags l n k ws → (t && allResolved producers (flagged (inputsOf k (take i (allRows l n))) (take h ws))) ≡ allResolved producers (flagged (inputsOf k (boxesOf l n)) ws)
+        step x f =
+            let q : h < length ws = omega (arith, s .low) in
+            let c : length (take h ws) ≡ length (inputsOf k (take i (allRows l n))) = omega (arith, count x f, length-take h ws) in
+            ap (λ (u : Bool). u && allResolved producers (flagged (inputsOf k (take i (allRows l n))) (take h ws))) (d x ∙ ap (λ (a : ℕ). resolvedBy producers (inputOf a (getD ws h 0))) b)
+            ∙ sym (resolved-snoc producers (flagged (inputsOf k (take i (allRows l n))) (take h ws)) (inputOf (boxAt l i .box) (getD ws h 0)))
+            ∙ ap (allResolved producers) (sym (flagged-snoc (inputsOf k (take i (allRows l n))) (take h ws) (boxAt l i .box) (getD ws h 0) c))
+            ∙ (λ u. allResolved producers (flagged (sym (inputs-at l n k at r some last i e x) u) ((sym (take-suc ws h 0 q) ∙ ap (λ (a : ℕ). take a ws) (sym z)) u)))
+            ∙ s .same x f
+
+        pub read-fails : t ≡ false → BoxesKept l n → Flags l n k ws → false ≡ allResolved producers (flagged (inputsOf k (boxesOf l n)) ws)
+        read-fails q x f = ap (λ (u : Bool). u && allResolved producers (flagged (inputsOf k (take i (allRows l n))) (take h ws))) (sym q) ∙ step x f
+
+        pub read-on : t ≡ true → Reading producers ws l n k i h
+        read-on q =
+            record {
+              low = omega (arith, s .low);
+              left = λ x f. omega (arith, count x f);
+              same = λ x f. ap (λ (u : Bool). u && allResolved producers (flagged (inputsOf k (take i (allRows l n))) (take h ws))) (sym q) ∙ step x f;
+            }

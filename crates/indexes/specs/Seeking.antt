@@ -1,23 +1,24 @@
--- The search of the last parent as the code does it: slot by slot, from the last of the first n down.
-use Prim.Native.Nat.{ℕ, suc, _+_, _-_, _≤_, _<_, min}
-use mathlib.Core.Path.{_≡_, sym, ap, _∙_}
-use mathlib.Core.Bool.{Bool, true, false}
+-- The search of the last parent as the code does it: input by input, from the last of the first slots down.
+use Prim.Native.Nat.{ℕ, suc, _+_, _≤_, _<_}
+use mathlib.Core.Path.{_≡_, refl, sym, ap, _∙_}
+use mathlib.Core.Bool.{true, false}
 use mathlib.Core.List.{List, [], _∷_, _++_}
-use native.Mathlib.Decide.{decLe}
-use native.Mathlib.Nat.{add-zero, add-suc, suc-add}
+use native.Mathlib.Nat.{add-zero, add-suc, suc-add, zero-add}
 use native.Mathlib.Omega.{arith}
-use lib.ListN.{length, take}
-use lib.Seq.{take-all}
-use Rattle.words.specs.Lists.{pick, flat}
-use Rattle.words.specs.Tables.{of-none, of-suc}
+use lib.ListN.{length, take, length-take}
 use Rattle.words.specs.declared.ids.Id.{Id}
-use Rattle.boxes.specs.Records.{BoxRec, isInput, inputsOf}
-use Rattle.boxes.specs.Layout.{boxAt, rowsOf, rows}
+use Rattle.boxes.specs.Records.{BoxRec, Pair, index, lookup, isInput}
+use Rattle.boxes.specs.Layout.{slotsUsed, boxAt, boxesOf, rowsOf, rows, allRows, index-rows}
+use Rattle.boxes.specs.Index.{BoxesKept}
+use Rattle.boxes.specs.Searching.{InputAt, LastInput}
+use Rattle.boxes.specs.declared.links.Slot.{Slot}
+use Rattle.boxes.specs.declared.links.Slot.the-variants.{At, Nowhere}
 use Rattle.indexes.specs.Owners.{ownerIds}
 use Rattle.indexes.specs.declared.owners.Owner.{Owner}
 use Rattle.indexes.specs.declared.owners.Owner.the-variants.{By, Nobody}
 use Rattle.indexes.specs.declared.inputs.Parent.the-variants.{Of}
-use Rattle.indexes.specs.Parents.{Link, orElse, lastFrom, ofInput, lastParent, linksOf, AtMostOne, none-last}
+use Rattle.indexes.specs.Inputs.{up-to, up-to-none}
+use Rattle.indexes.specs.Parents.{Link, orElse, lastFrom, ofInput, lastParent, linksOf}
 
 -- ---- one record more at the end
 
@@ -27,60 +28,50 @@ last-snoc g n (c ∷ l) b best =
     last-snoc g (suc n) l b (orElse (g c) n best)
     ∙ ap (λ (m : ℕ). orElse (g b) m (lastFrom g (suc n) l (orElse (g c) n best))) (suc-add n (length l) ∙ sym (add-suc n (length l)))
 
--- ---- the code's loop: the first `at` slots give the answer that the first n give
+abbrev lastIn : (ℕ → List ℕ) → ℕ → List BoxRec → List Link
+lastIn f k rs = lastFrom (ofInput f k) 0 rs []
 
-pub record Seeking (f : ℕ → List ℕ) (l : List ℕ) (used k n at : ℕ) : Type 0 where
-  pub low : at ≤ used
-  pub same : lastFrom (ofInput f k) 0 (rowsOf l at) [] ≡ lastParent f k (rowsOf l used) n
+last-skip : (f : ℕ → List ℕ) (k : ℕ) (rs : List BoxRec) (r : BoxRec) → isInput k r ≡ false → lastIn f k (rs ++ (r ∷ [])) ≡ lastIn f k rs
+last-skip f k rs r t = last-snoc (ofInput f k) 0 rs r [] ∙ rw t
 
--- the first n slots, and all where there are fewer
-first-records : (l : List ℕ) (used n at : ℕ) → at ≡ min n used → rowsOf l at ≡ take n (rowsOf l used)
-first-records l used n at e = go (decLe n used)
-  where
-    go : Dec (n ≤ used) → rowsOf l at ≡ take n (rowsOf l used)
-    go (yes h) = let q : at ≡ n = omega arith in ap (rowsOf l) q ∙ sym (rows .first l n used h)
-    go (no h) = let q : at ≡ used = omega (arith, h) in ap (rowsOf l) q ∙ sym (take-all n (rowsOf l used) (omega (arith, rows .len l used, h)))
+last-here : (f : ℕ → List ℕ) (k : ℕ) (rs : List BoxRec) (r : BoxRec) → isInput k r ≡ true → lastIn f k (rs ++ (r ∷ [])) ≡ orElse (f (r .box)) (length rs) (lastIn f k rs)
+last-here f k rs r t = last-snoc (ofInput f k) 0 rs r [] ∙ rw (t, zero-add (length rs))
 
-module _ (f : ℕ → List ℕ) (l : List ℕ) (used k n : ℕ) where
-  pub seek-first : (at : ℕ) → at ≡ min n used → Seeking f l used k n at
-  seek-first at e = record { low = omega arith; same = ap (λ (rs : List BoxRec). lastFrom (ofInput f k) 0 rs []) (first-records l used n at e) }
+-- ---- the code's loop: the slots before `at` give the answer that those before `bound` give
 
-  -- the inputs there are seen to have no producer
-  pub seek-none : AtMostOne f → (at : ℕ) → at ≡ min n used → flat f (inputsOf k (rowsOf l at)) ≡ [] → [] ≡ lastParent f k (rowsOf l used) n
-  seek-none one at e h = sym (none-last f one k (rowsOf l at) h) ∙ ap (λ (rs : List BoxRec). lastFrom (ofInput f k) 0 rs []) (first-records l used n at e)
+-- the producer of a box
+abbrev pub producerIn : List ℕ → ℕ → ℕ → List ℕ
+producerIn l n b = lookup (index true (allRows l n)) b
 
-  pub seek-end : (at : ℕ) → at ≤ 0 → Seeking f l used k n at → [] ≡ lastParent f k (rowsOf l used) n
-  seek-end at h s =
-      let z : at ≡ 0 = omega arith in
-      ap (λ (rs : List BoxRec). lastFrom (ofInput f k) 0 rs []) (sym (ap (rowsOf l) z ∙ of-none rows l)) ∙ s .same
+pub record Seeking (l : List ℕ) (n k bound at : ℕ) : Type 0 where
+  pub same : BoxesKept l n → lastParent (producerIn l n) k (allRows l n) at ≡ lastParent (producerIn l n) k (allRows l n) bound
 
-  module _ (at : ℕ) (h : 0 < at) (s : Seeking f l used k n at) where
-    -- the last record decides, else those before it
-    last : orElse (ofInput f k (boxAt l (at - 1))) (at - 1) (lastFrom (ofInput f k) 0 (rowsOf l (at - 1)) []) ≡ lastParent f k (rowsOf l used) n
-    last =
-        let q : at ≡ at - 1 + 1 = omega arith in
-        let e : 0 + length (rowsOf l (at - 1)) ≡ at - 1 = omega (arith, rows .len l (at - 1)) in
-        ap (λ (m : ℕ). orElse (ofInput f k (boxAt l (at - 1))) m (lastFrom (ofInput f k) 0 (rowsOf l (at - 1)) [])) (sym e)
-        ∙ sym (last-snoc (ofInput f k) 0 (rowsOf l (at - 1)) (boxAt l (at - 1)) [])
-        ∙ ap (λ (rs : List BoxRec). lastFrom (ofInput f k) 0 rs []) (sym (ap (rowsOf l) q ∙ of-suc rows l (at - 1)))
-        ∙ s .same
+before : (l : List ℕ) (n i : ℕ) → i < slotsUsed l n → length (take i (allRows l n)) ≡ i
+unfolding allRows
+before l n i h = omega (arith, length-take i (rowsOf l (slotsUsed l n)), rows .len l (slotsUsed l n))
 
-    module _ (o : Owner) (e : ownerIds o ≡ ofInput f k (boxAt l (at - 1))) where
-      pub seek-hit : (p : Id) → o ≡ By p → linksOf (Of p (at - 1)) ≡ lastParent f k (rowsOf l used) n
-      seek-hit p q = ap (λ (x : List ℕ). orElse x (at - 1) (lastFrom (ofInput f k) 0 (rowsOf l (at - 1)) [])) (sym (ap ownerIds q) ∙ e) ∙ last
+module _ (l : List ℕ) (n k bound : ℕ) where
+  pub seek-first : Seeking l n k bound bound
+  seek-first = record { same = λ x. refl }
 
-      pub seek-miss : o ≡ Nobody → Seeking f l used k n (at - 1)
-      seek-miss q =
-          record {
-            low = omega (arith, s .low);
-            same = ap (λ (x : List ℕ). orElse x (at - 1) (lastFrom (ofInput f k) 0 (rowsOf l (at - 1)) [])) (sym (ap ownerIds q) ∙ e) ∙ last;
-          }
+  pub seek-end : (at : ℕ) → at ≤ 0 → Seeking l n k bound at → BoxesKept l n → [] ≡ lastParent (producerIn l n) k (allRows l n) bound
+  seek-end at h s x = let z : at ≡ 0 = omega arith in ap (lastParent (producerIn l n) k (allRows l n)) (sym z) ∙ s .same x
 
--- ---- one record, in the words of the code
+  module _ (at : ℕ) (s : Seeking l n k bound at) (r : Slot) (some : InputAt l k at r) (last : BoxesKept l n → LastInput l n k at r) where
+    pub seek-none : r ≡ Nowhere → BoxesKept l n → [] ≡ lastParent (producerIn l n) k (allRows l n) bound
+    seek-none e x = sym (up-to-none (lastIn (producerIn l n) k) k (last-skip (producerIn l n) k) l n at r some last e x) ∙ s .same x
 
-module _ (f : ℕ → List ℕ) (k : ℕ) (r : BoxRec) where
-  pub tried-input : (x : ℕ) {os : List ℕ} → isInput k r ≡ true → x ≡ r .box → os ≡ f x → os ≡ ofInput f k r
-  tried-input x t e g = g ∙ ap f e ∙ ap (λ (b : Bool). pick b (f (r .box)) []) (sym t)
+    module _ (i y : ℕ) (e : r ≡ At i) (h : y ≡ boxAt l i .box) (o : Owner) (f : BoxesKept l n → ownerIds o ≡ lookup (index true (boxesOf l n)) y) where
+      -- the producer of the last input decides, else those before it
+      here : BoxesKept l n → orElse (ownerIds o) i (lastParent (producerIn l n) k (allRows l n) i) ≡ lastParent (producerIn l n) k (allRows l n) bound
+      here x =
+          (λ t. orElse (((f x ∙ ap (λ (ps : List Pair). lookup ps y) (sym (index-rows true l n))) ∙ ap (producerIn l n) h) t) (sym (before l n i (last x .some i e .0)) t) (lastIn (producerIn l n) k (take i (allRows l n))))
+          ∙ sym (last-here (producerIn l n) k (take i (allRows l n)) (boxAt l i) (some .some i e .2))
+          ∙ sym (up-to (lastIn (producerIn l n) k) k (last-skip (producerIn l n) k) l n at r some last i e x)
+          ∙ s .same x
 
-  pub tried-other : isInput k r ≡ false → [] ≡ ofInput f k r
-  tried-other t = ap (λ (b : Bool). pick b (f (r .box)) []) (sym t)
+      pub seek-hit : (p : Id) → o ≡ By p → BoxesKept l n → linksOf (Of p i) ≡ lastParent (producerIn l n) k (allRows l n) bound
+      seek-hit p q x = ap (λ (ks : List ℕ). orElse ks i (lastParent (producerIn l n) k (allRows l n) i)) (sym (ap ownerIds q)) ∙ here x
+
+      pub seek-miss : o ≡ Nobody → Seeking l n k bound i
+      seek-miss q = record { same = λ x. ap (λ (ks : List ℕ). orElse ks i (lastParent (producerIn l n) k (allRows l n) i)) (sym (ap ownerIds q)) ∙ here x }

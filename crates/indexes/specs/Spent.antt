@@ -1,58 +1,106 @@
--- Whether any of a list of boxes has a spender, record by record: where none has one there is no conflict.
-use Prim.Native.Nat.{ℕ, _+_, _≤_, _<_}
+-- Whether any of a list of boxes has a spender: box by box. Where none has one there is no conflict.
+use Prim.Native.Nat.{ℕ, _+_, _*_, _≤_, _<_}
 use mathlib.Core.Path.{_≡_, refl, sym, ap, _∙_}
 use mathlib.Core.Bool.{Bool, true, false, not, _&&_, _||_}
 use mathlib.Core.List.{List, [], _∷_}
+use native.Mathlib.Omega.{arith}
 use lib.Dec.{eqb}
 use lib.ListN.{drop}
-use borrow.Author.Tests.{eqb-true, eq-eqb}
+use Rattle.words.specs.Ids.{idAt}
 use Rattle.words.specs.Lists.{pick, flat}
 use Rattle.words.specs.Tables.{drop-of, drop-past}
-use Rattle.boxes.specs.Records.{BoxRec, Pair, index, lookup, conflicts}
-use Rattle.boxes.specs.Among.{among, among-cons}
+use Rattle.boxes.specs.Records.{BoxRec, index, lookup, conflicts}
+use Rattle.boxes.specs.Among.{among, among-cons, eqb-comm}
 use Rattle.boxes.specs.Entering.{overtakenBy}
-use Rattle.boxes.specs.Layout.{boxAt, boxesOf, rowsOf, rows, index-rows}
-use Rattle.indexes.specs.Owners.{isEntry, lookup-cons}
+use Rattle.boxes.specs.Flat.{countOf, idsOf, ids}
+use Rattle.boxes.specs.Layout.{boxesOf}
+use Rattle.boxes.specs.Index.{BoxesKept}
+use Rattle.boxes.specs.Lookup.{isEntry, lookup-cons}
+use Rattle.indexes.specs.Owners.{isFound}
 
 -- a live input of one of the boxes: what a newcomer with these inputs and no outputs would overtake
 abbrev pub anySpent : List ℕ → List BoxRec → Bool
 anySpent ins [] = false
 anySpent ins (r ∷ rs) = overtakenBy ins [] r || anySpent ins rs
 
--- ---- record by record
+-- ---- box by box
 
-module _ (ins : List ℕ) (l : List ℕ) (n i : ℕ) (h : i < n) where
-  spent-here : anySpent ins (drop i (rowsOf l n)) ≡ (overtakenBy ins [] (boxAt l i) || anySpent ins (drop (i + 1) (rowsOf l n)))
-  spent-here = rw (drop-of rows l n i h)
-
-  pub spent-hit : overtakenBy ins [] (boxAt l i) ≡ true → anySpent ins (drop i (rowsOf l n)) ≡ true
-  spent-hit t = spent-here ∙ rw t
-
-  pub spent-miss : overtakenBy ins [] (boxAt l i) ≡ false → anySpent ins (drop i (rowsOf l n)) ≡ anySpent ins (drop (i + 1) (rowsOf l n))
-  spent-miss t = spent-here ∙ rw t
-
-pub spent-end : (ins l : List ℕ) (n i : ℕ) → n ≤ i → anySpent ins (drop i (rowsOf l n)) ≡ false
-spent-end ins l n i h = rw (drop-past rows l n i h)
-
--- ---- it is read from the index of spenders, where those that are gone have no entry
-
-abbrev anyPair : List ℕ → List Pair → Bool
-anyPair ins [] = false
-anyPair ins (p ∷ ps) = among (p .box) ins || anyPair ins ps
-
-by-index : (ins : List ℕ) (rs : List BoxRec) → anySpent ins rs ≡ anyPair ins (index false rs)
-unfolding overtakenBy
-by-index ins [] = refl
-by-index ins (r ∷ rs) = go (r .live) (r .out) (by-index ins rs)
+-- of one box more: a record that is its entry, or that is overtaken by the others
+over-cons : (b : ℕ) (bs : List ℕ) (r : BoxRec) → overtakenBy (b ∷ bs) [] r ≡ (isEntry false b r || overtakenBy bs [] r)
+unfolding overtakenBy isEntry
+over-cons b bs r = rw (eqb-comm (r .box) b) (go (r .live) (r .out))
   where
-    go : (v o : Bool) → anySpent ins rs ≡ anyPair ins (index false rs)
-        → ((v && among (r .box) (pick o [] ins)) || anySpent ins rs) ≡ anyPair ins (pick (v && not o) (record { box = r .box; id = r .owner } ∷ index false rs) (index false rs))
-    go false o h = h
-    go true true h = h
-    go true false h = ap (λ (t : Bool). among (r .box) ins || t) h
+    go : (v o : Bool) → (v && among (r .box) (pick o [] (b ∷ bs))) ≡ ((eqb b (r .box) && (v && not o)) || (v && among (r .box) (pick o [] bs)))
+    go true true = none (eqb b (r .box))
+      where
+        none : (t : Bool) → false ≡ ((t && false) || false)
+        none true = refl
+        none false = refl
+    go true false = among-cons (r .box) b bs ∙ one (eqb b (r .box))
+      where
+        one : (t : Bool) → (t || among (r .box) bs) ≡ ((t && true) || among (r .box) bs)
+        one true = refl
+        one false = refl
+    go false o = gone (eqb b (r .box))
+      where
+        gone : (t : Bool) → false ≡ ((t && false) || false)
+        gone true = refl
+        gone false = refl
 
-pub spent-rows : (ins l : List ℕ) (n : ℕ) → anySpent ins (rowsOf l n) ≡ anySpent ins (boxesOf l n)
-spent-rows ins l n = by-index ins (rowsOf l n) ∙ ap (anyPair ins) (index-rows false l n) ∙ sym (by-index ins (boxesOf l n))
+spent-cons : (b : ℕ) (bs : List ℕ) (rs : List BoxRec) → anySpent (b ∷ bs) rs ≡ (isFound (lookup (index false rs) b) || anySpent bs rs)
+spent-cons b bs [] = none bs
+  where
+    none : (bs : List ℕ) → _≡_ {A = Bool} false (false || false)
+    none bs = refl
+spent-cons b bs (r ∷ rs) =
+    rw (over-cons b bs r, lookup-cons false b r rs) (go (isEntry false b r) (overtakenBy bs [] r) (isFound (lookup (index false rs) b)) refl (spent-cons b bs rs))
+  where
+    go : (t u v : Bool) → isFound (lookup (index false rs) b) ≡ v → anySpent (b ∷ bs) rs ≡ (isFound (lookup (index false rs) b) || anySpent bs rs)
+        → ((t || u) || anySpent (b ∷ bs) rs) ≡ (isFound (pick t (r .owner ∷ []) (lookup (index false rs) b)) || (u || anySpent bs rs))
+    go true u v q h = refl
+    go false true v q h = sym (or-true (isFound (lookup (index false rs) b)))
+      where
+        or-true : (t : Bool) → (t || true) ≡ true
+        or-true true = refl
+        or-true false = refl
+    go false false v q h = h
+
+spent-none : (rs : List BoxRec) → anySpent [] rs ≡ false
+unfolding overtakenBy
+spent-none [] = refl
+spent-none (r ∷ rs) = rw (spent-none rs) (go (r .live) (r .out))
+  where
+    go : (v o : Bool) → ((v && among (r .box) (pick o [] [])) || false) ≡ false
+    go true true = refl
+    go true false = refl
+    go false o = refl
+
+-- the boxes from the j-th on say what all of them say
+pub record Spending (W : ℕ) (inputs l : List ℕ) (n j : ℕ) : Type 0 where
+  pub same : BoxesKept l n → anySpent (drop j (idsOf W inputs)) (boxesOf l n) ≡ anySpent (idsOf W inputs) (boxesOf l n)
+
+module _ (W : ℕ) (inputs l : List ℕ) (n : ℕ) where
+  pub spend-first : Spending W inputs l n 0
+  spend-first = record { same = λ k. refl }
+
+  module _ (j x : ℕ) (t : Bool) (h : j < countOf W inputs) (e : x ≡ idAt inputs (j * W)) (s : Spending W inputs l n j)
+      (f : BoxesKept l n → t ≡ isFound (lookup (index false (boxesOf l n)) x)) where
+    here : BoxesKept l n → (t || anySpent (drop (j + 1) (idsOf W inputs)) (boxesOf l n)) ≡ anySpent (idsOf W inputs) (boxesOf l n)
+    here k =
+        ap (λ (u : Bool). u || anySpent (drop (j + 1) (idsOf W inputs)) (boxesOf l n)) (f k ∙ ap (λ (y : ℕ). isFound (lookup (index false (boxesOf l n)) y)) e)
+        ∙ sym (spent-cons (idAt inputs (j * W)) (drop (j + 1) (idsOf W inputs)) (boxesOf l n))
+        ∙ ap (λ (bs : List ℕ). anySpent bs (boxesOf l n)) (sym (drop-of (ids W) inputs (countOf W inputs) j h))
+        ∙ s .same k
+
+    pub spend-hit : t ≡ true → BoxesKept l n → true ≡ anySpent (idsOf W inputs) (boxesOf l n)
+    spend-hit q k = ap (λ (u : Bool). u || anySpent (drop (j + 1) (idsOf W inputs)) (boxesOf l n)) (sym q) ∙ here k
+
+    pub spend-miss : t ≡ false → Spending W inputs l n (j + 1)
+    spend-miss q = record { same = λ k. ap (λ (u : Bool). u || anySpent (drop (j + 1) (idsOf W inputs)) (boxesOf l n)) (sym q) ∙ here k }
+
+  pub spend-end : (j : ℕ) → countOf W inputs ≤ j → Spending W inputs l n j → BoxesKept l n → false ≡ anySpent (idsOf W inputs) (boxesOf l n)
+  spend-end j h s k =
+      sym (spent-none (boxesOf l n)) ∙ ap (λ (bs : List ℕ). anySpent bs (boxesOf l n)) (sym (drop-past (ids W) inputs (countOf W inputs) j h)) ∙ s .same k
 
 -- ---- no spender, no conflict
 
@@ -60,32 +108,15 @@ or-none : (a b : Bool) → (a || b) ≡ false → (a ≡ false) × (b ≡ false)
 or-none true b e = (e, cc)
 or-none false b e = (refl, e)
 
--- a record that is not overtaken is no entry for a box of the list
-no-entry : (ins : List ℕ) (b : ℕ) (r : BoxRec) → among b ins ≡ true → overtakenBy ins [] r ≡ false → isEntry false b r ≡ false
-unfolding isEntry overtakenBy
-no-entry ins b r h e = go (eqb (r .box) b) refl (r .live) (r .out) e
-  where
-    go : (t : Bool) → eqb (r .box) b ≡ t → (v o : Bool) → (v && among (r .box) (pick o [] ins)) ≡ false → (t && (v && not o)) ≡ false
-    go false q v o z = refl
-    go true q false o z = refl
-    go true q true true z = refl
-    go true q true false z = sym (sym z ∙ rw (eqb-true (r .box) b q) h)
+not-found : (ks : List ℕ) → isFound ks ≡ false → ks ≡ []
+not-found [] e = refl
+not-found (k ∷ ks) e = absurd (let z : _≡_ {A = ℕ} 0 1 = cc in omega arith)
 
-no-spender : (ins : List ℕ) (b : ℕ) → among b ins ≡ true → (rs : List BoxRec) → anySpent ins rs ≡ false → lookup (index false rs) b ≡ []
-no-spender ins b h [] e = refl
-no-spender ins b h (r ∷ rs) e =
-    let p = or-none (overtakenBy ins [] r) (anySpent ins rs) e in
-    lookup-cons false b r rs ∙ rw (no-entry ins b r h (p .0)) (no-spender ins b h rs (p .1))
-
-pub flat-none : (f : ℕ → List ℕ) (ks : List ℕ) → ((b : ℕ) → among b ks ≡ true → f b ≡ []) → flat f ks ≡ []
-flat-none f [] h = refl
-flat-none f (k ∷ ks) h =
-    rw (h k (among-cons k k ks ∙ rw (eq-eqb k k refl)))
-    (flat-none f ks (λ b q. h b (among-cons b k ks ∙ rw q (or-true (eqb k b)))))
-  where
-    or-true : (t : Bool) → (t || true) ≡ true
-    or-true true = refl
-    or-true false = refl
+flat-spent : (bs : List ℕ) (rs : List BoxRec) → anySpent bs rs ≡ false → flat (lookup (index false rs)) bs ≡ []
+flat-spent [] rs e = refl
+flat-spent (b ∷ bs) rs e =
+    let p = or-none (isFound (lookup (index false rs) b)) (anySpent bs rs) (sym (spent-cons b bs rs) ∙ e) in
+    rw (not-found (lookup (index false rs) b) (p .0)) (flat-spent bs rs (p .1))
 
 pub no-conflict : (ins : List ℕ) (rs : List BoxRec) → anySpent ins rs ≡ false → conflicts (index false rs) ins ≡ []
-no-conflict ins rs e = rw (flat-none (lookup (index false rs)) ins (λ b h. no-spender ins b h rs e))
+no-conflict ins rs e = rw (flat-spent ins rs e)

@@ -1,71 +1,63 @@
-// The inputs of a pooled transaction, in order: its input records.
-use crate::orphans::no_parent;
+// The inputs of a pooled transaction, from the last down: its input records.
 use crate::owners::Owner;
 use crate::owners::producer;
+use boxes::links::Slot;
+use boxes::links::last_input;
 use boxes::lists::has;
 use boxes::rows::box_key;
-use boxes::rows::box_out;
-use boxes::rows::is_owner;
 use words::ids::Id;
 ghost use mathlib.Core.Path.{_≡_};
 ghost use mathlib.Core.Bool.{true};
-ghost use Prim.Native.Nat.{_+_, min};
 ghost use lib.ListN.{length};
 ghost use Rattle.words.specs.Ids.{idOf};
-ghost use Rattle.boxes.specs.Records.{index, lookup, isInput, inputsOf};
+ghost use Rattle.boxes.specs.Records.{index, lookup, inputsOf};
 ghost use Rattle.boxes.specs.Flat.{idsOf};
-ghost use Rattle.boxes.specs.Layout.{BoxesOk, boxAt, boxesOf, rowsOf};
-ghost use Rattle.indexes.specs.Owners.{ownerIds};
+ghost use Rattle.boxes.specs.Layout.{BoxesOk, boxesOf, allRows};
+ghost use Rattle.boxes.specs.Index.{BoxesKept};
 ghost use Rattle.indexes.specs.Inputs.{allAmong};
-ghost use Rattle.indexes.specs.Parents.{ofInput, linksOf, lastParent};
-
-// Whether the record at index `at` is an input of a transaction.
-pub(crate) fn is_input(s: &[u64], at: usize, id: Id) -> bool
-    requires { ⌜ BoxesOk (now s) (at + 1) ⌝ }
-    ensures { λ r. ⌜ r ≡ isInput (idOf id) (boxAt (now (s .entry)) at) ⌝ }
-{
-    if is_owner(s, at, id) {
-        !box_out(s, at)
-    } else {
-        false
-    }
-}
+ghost use Rattle.indexes.specs.Parents.{linksOf, lastParent};
 
 // Whether each input of a transaction is among the ids of the list.
-pub fn all_listed(s: &[u64], used: usize, id: Id, list: &[u64]) -> bool
-    requires { ⌜ BoxesOk (now s) used ⌝ }
-    ensures { λ r. ⌜ r ≡ allAmong (idsOf 4 (now (list .entry))) (inputsOf (idOf id) (boxesOf (now (s .entry)) used)) ⌝ }
+pub fn all_listed(s: &[u64], n: usize, id: Id, list: &[u64]) -> bool
+    requires { ⌜ BoxesOk (now s) n ⌝ }
+    ensures { λ r. ⌜ (BoxesKept (now (s .entry)) n → r ≡ allAmong (idsOf 4 (now (list .entry))) (inputsOf (idOf id) (boxesOf (now (s .entry)) n))) ⌝ }
 {
-    let mut i = 0;
-    while i < used {
-        if is_input(s, i, id) {
-            if !has(list, 4, box_key(s, i)) {
-                return false;
+    let mut at = s.len();
+    while 0 < at {
+        match last_input(s, n, id, at) {
+            Slot::At(i) => {
+                if !has(list, 4, box_key(s, i)) {
+                    return false;
+                }
+                at = i;
             }
-            i += 1;
-        } else {
-            i += 1;
+            Slot::Nowhere => {
+                return true;
+            }
         }
     }
     true
 }
 
 // How many inputs a transaction has, repeats counted.
-pub fn count_inputs(s: &[u64], used: usize, id: Id) -> usize
-    requires { ⌜ BoxesOk (now s) used ⌝ }
-    ensures { λ r. ⌜ r ≡ length (inputsOf (idOf id) (boxesOf (now (s .entry)) used)) ⌝ }
+pub fn count_inputs(s: &[u64], n: usize, id: Id) -> usize
+    requires { ⌜ BoxesOk (now s) n ⌝ }
+    ensures { λ r. ⌜ (BoxesKept (now (s .entry)) n → r ≡ length (inputsOf (idOf id) (boxesOf (now (s .entry)) n))) ⌝ }
 {
-    let mut at = 0;
-    let mut n = 0;
-    while at < used {
-        if is_input(s, at, id) {
-            n += 1;
-            at += 1;
-        } else {
-            at += 1;
+    let mut count = 0;
+    let mut at = s.len();
+    while 0 < at {
+        match last_input(s, n, id, at) {
+            Slot::At(i) => {
+                count += 1;
+                at = i;
+            }
+            Slot::Nowhere => {
+                return count;
+            }
         }
     }
-    n
+    count
 }
 
 // The producer of an input, and the slot of the input's record.
@@ -74,43 +66,24 @@ pub enum Parent {
     NoParent,
 }
 
-// The producer of the box of the record at index `at`, if that is an input of a transaction.
-fn parent_at(s: &[u64], used: usize, id: Id, at: usize) -> Owner
-    requires { ⌜ BoxesOk (now s) used ⌝ }
-    requires { ⌜ BoxesOk (now s) (at + 1) ⌝ }
-    ensures { λ r. ⌜ ownerIds r ≡ ofInput (lookup (index true (rowsOf (now (s .entry)) used))) (idOf id) (boxAt (now (s .entry)) at) ⌝ }
+// The last input of a transaction in the slots before `bound` that has a producer: who it is, and the slot of the input's record.
+pub fn last_parent(s: &[u64], n: usize, id: Id, bound: usize) -> Parent
+    requires { ⌜ BoxesOk (now s) n ⌝ }
+    ensures { λ r. ⌜ (BoxesKept (now (s .entry)) n → linksOf r ≡ lastParent (lookup (index true (allRows (now (s .entry)) n))) (idOf id) (allRows (now (s .entry)) n) bound) ⌝ }
 {
-    if is_input(s, at, id) {
-        producer(s, used, box_key(s, at))
-    } else {
-        Owner::Nobody
-    }
-}
-
-fn least(a: usize, b: usize) -> usize
-    ensures { λ r. ⌜ r ≡ min a b ⌝ }
-{
-    if a < b { a } else { b }
-}
-
-// The last input of a transaction in the first `n` slots that has a producer: who it is, and the slot of the input's record. The slots
-// are read from the last of these down, so that no more producers are looked up than the answer needs.
-pub fn last_parent(s: &[u64], used: usize, id: Id, n: usize) -> Parent
-    requires { ⌜ BoxesOk (now s) used ⌝ }
-    ensures { λ r. ⌜ linksOf r ≡ lastParent (lookup (index true (rowsOf (now (s .entry)) used))) (idOf id) (rowsOf (now (s .entry)) used) n ⌝ }
-{
-    let mut at = least(n, used);
-    if no_parent(s, used, id, at) {
-        return Parent::NoParent;
-    }
+    let mut at = bound;
     while 0 < at {
-        let here = at - 1;
-        match parent_at(s, used, id, here) {
-            Owner::By(p) => {
-                return Parent::Of(p, here);
-            }
-            Owner::Nobody => {
-                at = here;
+        match last_input(s, n, id, at) {
+            Slot::At(i) => match producer(s, n, box_key(s, i)) {
+                Owner::By(p) => {
+                    return Parent::Of(p, i);
+                }
+                Owner::Nobody => {
+                    at = i;
+                }
+            },
+            Slot::Nowhere => {
+                return Parent::NoParent;
             }
         }
     }

@@ -11,7 +11,7 @@ use Rattle.ledger.specs.Charges.{Fair}
 use Rattle.ledger.specs.Same.{SameBook}
 use Rattle.ledger.specs.SameCharges.{SameCharges}
 use Rattle.ledger.specs.Ledger.{Ledger}
-use Rattle.ledger.specs.Run.{Moment, worldAt, FitsAt, passAt, Becomes}
+use Rattle.ledger.specs.Run.{Moment, worldAt, KeptAt, passAt, Becomes}
 
 -- the settings of an accepted start, with a peer limit of at least 1
 pub record Bounds (g : MempoolConfig) : Type 0 where
@@ -30,7 +30,7 @@ abbrev pub Recalls : PassNow → Ledger → Type 0
 Recalls p l = (p .isOpen && p .out) ≡ true → l .given ≡ p .candidate ∷ []
 
 pub record Agrees (g : MempoolConfig) (m : Moment) (l : Ledger) : Type 0 where
-  pub fits : FitsAt m
+  pub kept : KeptAt m
   pub config : m .state .config ≡ g
   pub world : SameWorld g (worldAt m) l
   pub given : Recalls (passAt m) l
@@ -46,11 +46,11 @@ pub record Tallies (g : MempoolConfig) (r : PassResult) (l : Ledger) : Type 0 wh
 pub became-agrees : (g : MempoolConfig) (m k : Moment) (l : Ledger) (o : Outcome) (r : PassResult) (hears : Reading → Ledger)
     → Agrees g m l → Becomes m k o r → Tallies g r (hears (readingOf (r .outcome))) → Agrees g k (hears (readingOf o))
 became-agrees g m k l o r hears s c t =
-    let p = c (s .fits) in
+    let p = c (s .kept) in
     let j : Ledger = hears (readingOf (r .outcome)) in
     rw (p .outcome)
     (record {
-      fits = p .fits;
+      kept = p .kept;
       config = p .config ∙ s .config;
       world = subst (λ (w : World). SameWorld g w j) (sym (p .world)) (t .world);
       given = subst (λ (x : PassNow). Recalls x j) (sym (p .pass)) (t .given);

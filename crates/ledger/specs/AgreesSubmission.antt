@@ -30,7 +30,7 @@ use Rattle.indexes.specs.Resolved.{allResolved, submitted}
 use Rattle.pool.specs.Pool.{Tables, noRoom}
 use Rattle.store.specs.World.{World, unchanged}
 use Rattle.checks.specs.Checks.{dear, remote, callRefusal, peerRefusal, stateRefusal, listRefusal, refusalOf}
-use Rattle.checks.specs.Passed.{Passed, Welcome, passed}
+use Rattle.checks.specs.Passed.{Passed, Welcome, passed, unpooled}
 use Rattle.admit.specs.Admit.{Admitted, costOf, admitSpec}
 use Rattle.process.specs.Process.{standingOf, admitted, judged, processed}
 use Rattle.ledger.specs.Charges.{charges, totalCharged, chargedTo}
@@ -140,12 +140,12 @@ module _ (g : MempoolConfig) (bounds : Bounds g) (m : Moment) (l : Ledger) (s : 
           absurd (omega arith)
       go (no x) z = omega (arith, x)
 
-  module _ (p : Passed 5000 (m .entries) (m .boxes) st room at a ins outs) where
+  module _ (p : Passed 5000 (m .entries) (m .boxes) st room at a ins outs) (new : pooled (idOf (a .id)) (w .tables .entries) ≡ false) where
     admits : (c : ℕ) (v : a .verdict ≡ Valid c) → Keeps g (admitted (admitSpec visitCap room g (w .tables) a c ins outs) w a c .world) l (hearsSubmission g a ins outs (readingOf (admitSpec visitCap room g (w .tables) a c ins outs .outcome)) l)
     unfolding chargeFor
     admits c v =
         let d : Admitted = admitSpec visitCap room g (w .tables) a c ins outs in
-        let z : Settles g a c ins outs v l d = admission-same g a c ins outs v l (w .tables) (s .world .book) (p .new) room in
+        let z : Settles g a c ins outs v l d = admission-same g a c ins outs v l (w .tables) (s .world .book) new room in
         let k : ℕ = costOf c (a .size) in
         let small : k < 2 ^ 32 = omega (arith, p .size, p .cost c v) in
         let q = same-charge (g .«cost_per_block») (g .«cost_per_peer_per_block») (bounds .block) (bounds .peer) (a .source) k small (s .world .charges) (s .world .fair) (below (a .source) (p .welcome)) in
@@ -166,7 +166,7 @@ module _ (g : MempoolConfig) (bounds : Bounds g) (m : Moment) (l : Ledger) (s : 
   keeps = go (eqb n 0) refl
     where
       go : (t : Bool) → eqb n 0 ≡ t → Keeps g (pick t (judged visitCap room st w a ins outs (a .verdict)) (unchanged (refused n 0) w) .world) l (hearsSubmission g a ins outs (readingOf (pick t (judged visitCap room st w a ins outs (a .verdict)) (unchanged (refused n 0) w) .outcome)) l)
-      go true e = judges (passed 5000 (m .entries) (m .boxes) st room (w .cache) at a ins outs (fits-pool m (s .fits)) (eqb-true n 0 e)) (a .verdict) refl
+      go true e = judges (passed 5000 (m .entries) (m .boxes) st room (w .cache) at a ins outs (fits-pool m (s .kept)) (s .kept .indexed .pool .boxes) (eqb-true n 0 e)) (unpooled 5000 (entriesRoom (m .entries)) (boxesRoom (m .boxes)) st room (w .tables) (w .cache) at a ins outs (eqb-true n 0 e)) (a .verdict) refl
       go false e = rw (quiet-same g a ins outs n l (refusal-quiet 5000 (entriesRoom (m .entries)) (boxesRoom (m .boxes)) room st (w .tables) (w .cache) at a ins outs)) (record { same = s .world; given = refl })
 
 -- ---- the call
@@ -180,5 +180,5 @@ module _ (g : MempoolConfig) (bounds : Bounds g) (m k : Moment) (l : Ledger) (a 
 
   pub submission-fails : FailsExactly g (a .source) (readingOf o) (l .charged)
   submission-fails =
-      rw (c .left (s .fits) .outcome, ← s .config)
-      (submission-limits (limitsAt m) (m .state) (worldAt m) (c .room) a ins outs (l .charged) (s .world .charges) refl (used-is m (s .fits)) (rw (s .config) (bounds .one)))
+      rw (c .left (s .kept) .outcome, ← s .config)
+      (submission-limits (limitsAt m) (m .state) (worldAt m) (c .room) a ins outs (l .charged) (s .world .charges) refl (used-is m (s .kept)) (rw (s .config) (bounds .one)))

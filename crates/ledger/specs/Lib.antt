@@ -24,5 +24,6 @@ pub mod AgreesCalls
 pub mod AgreesPasses
 pub mod Theorem
 pub mod Witness
+pub mod WitnessTests
 pub mod WitnessStore
 pub mod WitnessRun

@@ -16,7 +16,7 @@ use Rattle.peers.specs.declared.PeerRecord.{PeerRecord}
 use Rattle.entries.specs.Layout.{entriesRoom}
 use Rattle.boxes.specs.Layout.{boxesRoom}
 use Rattle.store.specs.World.{World, world, worldOf, Result}
-use Rattle.store.specs.Fits.{Fits}
+use Rattle.store.specs.Fits.{Kept}
 use Rattle.mempool.specs.Start.{Sizes, sizes, empty, started}
 use Rattle.process.specs.Process.{Limits, processed}
 use Rattle.process.specs.Post.{limitsOf}
@@ -38,12 +38,12 @@ pub record Moment : Type 0 where
 abbrev pub moment : List ℕ → List ℕ → List ℕ → List PeerRecord → Mempool → Moment
 moment e b k ys st = record { entries = e; boxes = b; cache = k; peers = ys; state = st }
 
--- what the words and records decode to, and that the counts of the state fit them
+-- what the words and records decode to, and that they are kept: the counts of the state fit them, and the indexes are right
 abbrev pub worldAt : Moment → World
 worldAt m = worldOf (m .entries) (m .boxes) (m .cache) (m .peers) (m .state)
 
-abbrev pub FitsAt : Moment → Type 0
-FitsAt m = Fits (m .entries) (m .boxes) (m .cache) (m .peers) (m .state)
+abbrev pub KeptAt : Moment → Type 0
+KeptAt m = Kept (m .entries) (m .boxes) (m .cache) (m .peers) (m .state)
 
 abbrev pub passAt : Moment → PassNow
 passAt m = passOf (m .state .pass)
@@ -59,15 +59,15 @@ limitsAt m = limitsOf (m .entries) (m .boxes)
 
 -- from the moment m, a call answered o and left the moment n, as r has it
 pub record Became (m n : Moment) (o : Outcome) (r : PassResult) : Type 0 where
-  pub fits : FitsAt n
+  pub kept : KeptAt n
   pub config : n .state .config ≡ m .state .config
   pub outcome : o ≡ r .outcome
   pub world : worldAt n ≡ r .world
   pub pass : passAt n ≡ r .pass
 
--- .. where the counts fit. That is never assumed of a list: the start gives it, and each step hands it on.
+-- .. where the store is kept. That is never assumed of a list: the start gives it, and each step hands it on.
 abbrev pub Becomes : Moment → Moment → Outcome → PassResult → Type 0
-Becomes m n o r = FitsAt m → Became m n o r
+Becomes m n o r = KeptAt m → Became m n o r
 
 -- a call that leaves the pass as it is
 abbrev pub passKept : Moment → Result → PassResult
@@ -114,7 +114,7 @@ nothing = world (record { entries = []; boxes = [] }) [] 0 []
 pub record Begun (g : MempoolConfig) (m : Moment) : Type 0 where
   pub sizes : Sizes
   pub accepted : started sizes g ≡ Ready (empty g)
-  pub fits : FitsAt m
+  pub kept : KeptAt m
   pub config : m .state .config ≡ g
   pub world : worldAt m ≡ nothing
   pub pass : passAt m ≡ noPass

@@ -16,7 +16,7 @@ use Rattle.expiring_cache.specs.Layout.{cacheRoom}
 use Rattle.peers.specs.declared.PeerRecord.{PeerRecord}
 use Rattle.pool.specs.Pool.{PoolFits}
 use Rattle.store.specs.World.{Result}
-use Rattle.store.specs.Fits.{Testable}
+use Rattle.store.specs.Fits.{Testable, Indexed}
 use Rattle.mempool.specs.Start.{started}
 use Rattle.process.specs.Promises.{ProcessPromise}
 use Rattle.process.specs.declared.Processed.{Processed}
@@ -29,29 +29,29 @@ use Rattle.cleanup.specs.Passes.{passOf, PassResult, still}
 use Rattle.cleanup.specs.Post.{PassPost}
 use Rattle.cleanup.specs.Promises.{OpenPromise, NextPromise, AnswerPromise}
 use Rattle.ledger.specs.Ledger.{Query, Submit, Return, Block, Invalidate, Open, Next, Answer, Start, Ask}
-use Rattle.ledger.specs.Run.{Moment, moment, worldAt, FitsAt, passAt, sizesAt, Became, passKept, Step}
+use Rattle.ledger.specs.Run.{Moment, moment, worldAt, KeptAt, passAt, sizesAt, Became, passKept, Step}
 
--- ---- what it is that the counts fit
+-- ---- what it is that the store is kept
 
-pub fits-made : (m : Moment) → Testable (m .entries) (m .boxes) (m .cache) (m .state) → max (m .state .config .«invalidation_capacity») 1 ≤ cacheRoom (m .cache) → m .state .sums .peers ≤ 256
-    → 256 ≤ length (m .peers) → FitsAt m
-fits-made m t k u r = record { tests = t; keeps = k; records = r; used = u }
+pub kept-made : (m : Moment) → Testable (m .entries) (m .boxes) (m .cache) (m .state) → max (m .state .config .«invalidation_capacity») 1 ≤ cacheRoom (m .cache) → m .state .sums .peers ≤ 256
+    → 256 ≤ length (m .peers) → Indexed (m .entries) (m .boxes) (m .cache) (m .state) → KeptAt m
+kept-made m t k u r x = record { fits = record { tests = t; keeps = k; records = r; used = u }; indexed = x }
 
-pub fits-pool : (m : Moment) → FitsAt m → PoolFits (m .entries) (m .boxes) (m .state .counts)
-fits-pool m f = f .tests .pool
+pub fits-pool : (m : Moment) → KeptAt m → PoolFits (m .entries) (m .boxes) (m .state .counts)
+fits-pool m f = f .fits .tests .pool
 
 -- the state's count of peer records is that of the records in use
-pub used-is : (m : Moment) → FitsAt m → m .state .sums .peers ≡ length (worldAt m .peers)
-used-is m f = omega (arith, length-take (m .state .sums .peers) (m .peers), f .used, f .records)
+pub used-is : (m : Moment) → KeptAt m → m .state .sums .peers ≡ length (worldAt m .peers)
+used-is m f = omega (arith, length-take (m .state .sums .peers) (m .peers), f .fits .used, f .fits .records)
 
 -- ---- what the contracts of calls that leave the peers say
 
 module _ (m : Moment) {e b k : List ℕ} {st : Mempool} {o : Outcome} where
   of-meets : {r : Result} → Meets (m .state) st o e b k (m .peers) r → Became m (moment e b k (m .peers) st) o (passKept m r)
-  of-meets p = record { fits = p .fits; config = p .config; outcome = p .outcome; world = p .world; pass = ap passOf (p .pass) }
+  of-meets p = record { kept = p .kept; config = p .config; outcome = p .outcome; world = p .world; pass = ap passOf (p .pass) }
 
   of-pass : {r : PassResult} → PassPost (m .state) st o e b k (m .peers) r → Became m (moment e b k (m .peers) st) o r
-  of-pass p = record { fits = p .fits; config = p .config; outcome = p .outcome; world = p .world; pass = p .pass }
+  of-pass p = record { kept = p .kept; config = p .config; outcome = p .outcome; world = p .world; pass = p .pass }
 
 -- ---- the calls: e, b, k and ys are the words and records after the call, st and r what it handed back
 
@@ -60,7 +60,7 @@ module _ (m : Moment) where
   pub submit-step : (a : Submission) (ins outs : List ℕ) {e b k : List ℕ} {ys : List PeerRecord} {was are : List ℕ} {r : Processed}
       → ProcessPromise (m .entries) (m .boxes) (m .cache) (m .peers) (m .state) a ins outs e b k ys was are r → Step (Submit a ins outs) (processedOf (r .outcome)) m (moment e b k ys (r .mempool))
   submit-step a ins outs {was = was} h =
-      record { room = length was / 4; left = λ f. let p = h f in record { fits = p .fits; config = p .config; outcome = p .outcome; world = p .world; pass = ap passOf (p .pass) } }
+      record { room = length was / 4; left = λ f. let p = h f in record { kept = p .kept; config = p .config; outcome = p .outcome; world = p .world; pass = ap passOf (p .pass) } }
 
   -- `returns::return_to_pool`
   pub return-step : (u : UnconfirmedTx) (ins outs : List ℕ) {e b : List ℕ} {st : Mempool} {o : Outcome}
@@ -74,7 +74,7 @@ module _ (m : Moment) where
       record {
         room = length was / 4;
         stats = s;
-        left = λ f. let p = h (m .peers) f in record { fits = p .fits; config = p .config; outcome = p .outcome; world = p .world; pass = ap passOf (p .pass) };
+        left = λ f. let p = h (m .peers) f in record { kept = p .kept; config = p .config; outcome = p .outcome; world = p .world; pass = ap passOf (p .pass) };
       }
 
   -- `returns::invalidate`
@@ -97,8 +97,8 @@ module _ (m : Moment) where
   answer-step flags v h = λ f. of-pass m (h (m .peers) f)
 
   -- nothing changed
-  still-there : (o : Outcome) → FitsAt m → Became m m o (still o (worldAt m) (passAt m))
-  still-there o f = record { fits = f; config = refl; outcome = refl; world = refl; pass = refl }
+  still-there : (o : Outcome) → KeptAt m → Became m m o (still o (worldAt m) (passAt m))
+  still-there o f = record { kept = f; config = refl; outcome = refl; world = refl; pass = refl }
 
   -- `lent::start`, refused
   pub start-step : (time : ℕ) (c : MempoolConfig) (n : ℕ) → NotStarted n ≡ started (sizesAt m) c → Step (Start time c) (refused n 0) m m

@@ -18,6 +18,9 @@ use Rattle.entries.specs.Entries.{Entry}
 use Rattle.boxes.specs.Records.{BoxRec, Pair, inputsOf, outputsOf}
 use Rattle.pool.specs.Pool.{Tables}
 use Rattle.words.specs.Tables.{of-none}
+use Rattle.entries.specs.Layout.{kept-none as entries-none}
+use Rattle.boxes.specs.Index.{kept-none as boxes-none}
+use Rattle.expiring_cache.specs.Layout.{kept-none as cache-none}
 use Rattle.entries.specs.Layout.{entries}
 use Rattle.entries.specs.Layout.{ok-room as entries-room}
 use Rattle.boxes.specs.Layout.{no-boxes}
@@ -27,7 +30,7 @@ use Rattle.store.specs.World.{World, worldOf}
 use Rattle.store.specs.Fits.{goes-on, un-not}
 use Rattle.cleanup.specs.Passes.{PassNow, passOf, noPass, still}
 use Rattle.cleanup.specs.Laws.{no-id}
-use Rattle.expiring_cache.specs.Layout.{rows}
+use Rattle.expiring_cache.specs.Layout.{no-rows}
 use Rattle.peers.specs.declared.PeerRecord.{PeerRecord}
 use Rattle.mempool.specs.Start.{Sizes, sized, settled, within, empty, started}
 use Rattle.ledger.specs.Book.{Tx, Book, insOf, outsOf}
@@ -41,8 +44,8 @@ use Rattle.ledger.specs.SameCharges.{same-none as charges-none}
 use Rattle.ledger.specs.Readings.{Named, found-same, ids-once, in-strict-order, length-same, pooled-same, weights-same, inputs-same, outputs-same, named-spender, named-producer}
 use Rattle.ledger.specs.BookCredits.{credits-for-chains}
 use Rattle.ledger.specs.Ledger.{Call, Submit, Return, Block, Invalidate, Open, Next, Answer, Start, Ask, Ledger, Heard, told, entersSubmission, hearsSubmission, ledger, visitCap}
-use Rattle.ledger.specs.Run.{Moment, moment, worldAt, FitsAt, passAt, sizesAt, Becomes, Step, nothing, Begun, Run, begin, call}
-use Rattle.ledger.specs.Steps.{fits-made}
+use Rattle.ledger.specs.Run.{Moment, moment, worldAt, KeptAt, passAt, sizesAt, Becomes, Step, nothing, Begun, Run, begin, call}
+use Rattle.ledger.specs.Steps.{kept-made}
 use Rattle.ledger.specs.Demand3.{Known, pooledAs, heldAs, Names, CreditsChains, FailsExactly, ofSubmit, everySubmission, Demand3}
 use Rattle.ledger.specs.Agrees.{Bounds, SameWorld, Recalls, Agrees}
 use Rattle.ledger.specs.AgreesSubmission.{submission-agrees, submission-fails}
@@ -132,7 +135,7 @@ bounds-of z g fine one =
 start-agrees : (m : Moment) (g : MempoolConfig) → Begun g m → Agrees g m (told g [])
 start-agrees m g b =
     record {
-      fits = b .fits;
+      kept = b .kept;
       config = b .config;
       world = subst (λ (w : World). SameWorld g w (told g [])) (sym (b .world)) (record { book = book-none; charges = charges-none; fair = tt });
       given = subst (λ (x : PassNow). Recalls x (told g [])) (sym (b .pass)) (λ x. let y : _≡_ {A = ℕ} 0 1 = cc in absurd (omega arith));
@@ -141,7 +144,7 @@ start-agrees m g b =
 -- the empty state holds nothing, in any words
 pub empty-world : (e b k : List ℕ) (ys : List PeerRecord) (g : MempoolConfig) → worldOf e b k ys (empty g) ≡ nothing
 unfolding empty
-empty-world e b k ys g = rw (of-none entries e, no-boxes b, of-none rows k)
+empty-world e b k ys g = rw (of-none entries e, no-boxes b, no-rows k)
 
 pub empty-pass : (g : MempoolConfig) → passOf (empty g .pass) ≡ noPass
 unfolding empty
@@ -152,19 +155,20 @@ module _ (m : Moment) (g : MempoolConfig) (e : started (sizesAt m) g ≡ Ready (
   met : Accepted (sizesAt m) g (m .state)
   met = accepted-start (sizesAt m) g (m .state) e
 
-  start-fits : FitsAt (moment (m .entries) (m .boxes) (m .cache) (m .peers) (empty g))
+  start-kept : KeptAt (moment (m .entries) (m .boxes) (m .cache) (m .peers) (empty g))
   unfolding sized settled empty
-  start-fits =
+  start-kept =
       let p = goes-on (not (within (sizesAt m .entries) 4096)) _ (met .size) in
       let q = goes-on (not (within (sizesAt m .boxes) 65536)) _ (p .1) in
       let r = goes-on (not (within (sizesAt m .cache) 10000)) _ (q .1) in
       let j = goes-on (leb (sizesAt m .entries) (g .capacity)) _ (met .fine) in
       let k = goes-on (ltb (sizesAt m .cache) (g .«invalidation_capacity»)) _ (j .1) in
-      fits-made (moment (m .entries) (m .boxes) (m .cache) (m .peers) (empty g))
+      kept-made (moment (m .entries) (m .boxes) (m .cache) (m .peers) (empty g))
       (record { pool = record { entries = entries-room (m .entries) 0 (omega arith); boxes = boxes-room (m .boxes) 0 (omega arith) }; cache = cache-room (m .cache) 0 (omega arith) })
       (fits-cache (g .«invalidation_capacity») _ (within-one _ _ (un-not _ (r .0))) (ltb-false _ _ (k .0)))
       (omega arith)
       (omega (arith, eqb-true (length (m .peers)) 256 (r .1)))
+      (record { pool = record { entries = entries-none (m .entries); boxes = boxes-none (m .boxes) }; cache = cache-none (m .cache) })
     where
       within-one : (n most : ℕ) → within n most ≡ true → 1 ≤ n
       within-one n most h = by (eqb n 0) refl h
@@ -182,7 +186,7 @@ module _ (m : Moment) (g : MempoolConfig) (e : started (sizesAt m) g ≡ Ready (
       record {
         sizes = sizesAt m;
         accepted = e ∙ ap Ready (met .state);
-        fits = start-fits;
+        kept = start-kept;
         config = refl;
         world = empty-world (m .entries) (m .boxes) (m .cache) (m .peers) g;
         pass = empty-pass g;

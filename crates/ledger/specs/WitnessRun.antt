@@ -107,7 +107,7 @@ submits w w' k from b f c fee o ks s s' e =
     let z : comes w (worldAt (with w)) k from b f c fee ≡ record { outcome = o; world = w'; written = ks } = ap (λ (x : World). comes w x k from b f c fee) (s .is) ∙ e in
     record {
       room = 9;
-      left = λ _. record { fits = s' .fits; config = refl; outcome = sym (ap (λ (r : Result). r .outcome) z); world = s' .is ∙ sym (ap (λ (r : Result). r .world) z); pass = refl };
+      left = λ _. record { kept = s' .kept; config = refl; outcome = sym (ap (λ (r : Result). r .outcome) z); world = s' .is ∙ sym (ap (λ (r : Result). r .world) z); pass = refl };
     }
 
 mines : Step (Block 0 txs ins) (wrote 1) (with w4) (with w5)
@@ -117,7 +117,7 @@ mines =
     record {
       room = 9;
       stats = fresh 0;
-      left = λ _. record { fits = s5 .fits; config = refl; outcome = sym (ap (λ (r : Result). r .outcome) z); world = s5 .is ∙ sym (ap (λ (r : Result). r .world) z); pass = refl };
+      left = λ _. record { kept = s5 .kept; config = refl; outcome = sym (ap (λ (r : Result). r .outcome) z); world = s5 .is ∙ sym (ap (λ (r : Result). r .world) z); pass = refl };
     }
 
 -- ---- the list

@@ -1,35 +1,38 @@
 -- Stores for a list of calls that a reader can follow (WitnessRun.antt): six worlds, and words that decode to them. Ids are small numbers, of one word. This
--- file knows how the tables lie in words; the list of calls knows the worlds alone.
-use Prim.Native.Nat.{ℕ, _-_, _*_, _<_}
-use mathlib.Core.Path.{_≡_, refl, sym, _∙_}
+-- file knows how the tables lie in words; the list of calls knows the worlds alone. That the words are kept is computed (WitnessTests.antt).
+use Prim.Native.Nat.{ℕ, zero, suc, _-_}
+use mathlib.Core.Path.{_≡_, refl, ap}
 use mathlib.Core.Bool.{Bool, true, false}
 use mathlib.Core.List.{List, [], _∷_, _++_}
 use native.Mathlib.Omega.{arith}
 use lib.Dec.{leb}
-use lib.ListN.{length, replicate}
-use lib.Seq.{ext-getD}
+use lib.ListN.{length, getD, replicate}
 use borrow.Author.Tests.{leb-true}
-use Rattle.words.specs.Rows.{tab, length-tab, getD-tab, recAt}
-use Rattle.words.specs.Tables.{of-none}
 use Rattle.words.specs.Ids.{num, idOf, idAt, join-is}
+use Rattle.words.specs.Buckets.{bucketOf}
+use Rattle.words.specs.Chains.{prev, checked, bounded}
 use Rattle.words.specs.declared.ids.Id.{Id}
 use Rattle.pool_types.specs.declared.Mempool.{Mempool}
 use Rattle.pool_types.specs.declared.MempoolConfig.{MempoolConfig}
 use Rattle.pool_types.specs.declared.FeeStrategy.the-variants.{FeePerByte}
-use Rattle.expiring_cache.specs.Layout.{cacheRoom}
-use Rattle.expiring_cache.specs.Layout.{rows as held, ok-room as cache-room}
+use Rattle.expiring_cache.specs.Layout.{cacheRoom, no-rows}
+use Rattle.expiring_cache.specs.Layout.{ok-room as cache-room, kept-none as cache-none}
 use Rattle.peers.specs.Peers.{noPeer, peerOf}
-use Rattle.entries.specs.Entries.{Entry}
-use Rattle.entries.specs.Layout.{tagOf, valueOf, entriesRoom, entriesOf, entryAt, entryDec, entries}
+use Rattle.entries.specs.Entries.{Entry, ahead}
+use Rattle.entries.specs.Cells.{slotCount, cell, rawAt, bucketKey, slotOf, entryFrom, entryIn}
+use Rattle.entries.specs.Index as E
+use Rattle.entries.specs.Layout.{tagOf, valueOf, entriesRoom, entriesOf, entryAt}
 use Rattle.entries.specs.Layout.{ok-room as entries-room}
 use Rattle.entries.specs.declared.fields.ValidationCost.the-variants.{Measured}
 use Rattle.boxes.specs.Records.{BoxRec}
-use Rattle.boxes.specs.Layout.{boxesOf, slotsOf, slotAt, boxesRoom}
+use Rattle.boxes.specs.Layout.{keyAt, kindAt, keyWord, usedWord, slotAt, slotsOf, slotsUsed, recordsIn, boxesOf, boxesRoom}
 use Rattle.boxes.specs.Layout.{room-ok as boxes-room}
-use Rattle.pool.specs.Pool.{PoolFits, nobody}
+use Rattle.boxes.specs.Index as B
+use Rattle.pool.specs.Pool.{PoolFits}
 use Rattle.store.specs.World.{World, world}
-use Rattle.ledger.specs.Run.{Moment, moment, worldAt, FitsAt}
-use Rattle.ledger.specs.Steps.{fits-made}
+use Rattle.ledger.specs.Run.{Moment, moment, worldAt, KeptAt}
+use Rattle.ledger.specs.Steps.{kept-made}
+use Rattle.ledger.specs.WitnessTests.{boxIndex, boxes-kept, entryIndex, slotsRight, inOrder, eachOnce, entries-kept}
 
 -- ---- ids
 
@@ -77,7 +80,7 @@ w4 = charged (tx 4 60 60 ∷ tx 1 50 20 ∷ []) (input 7 1 ∷ output 11 1 ∷ i
 abbrev pub w5 : World
 w5 = world (record { entries = tx 4 60 60 ∷ []; boxes = input 8 4 ∷ output 14 4 ∷ [] }) [] 0 []
 
--- ---- a moment for each: words for 3 entries, 8 box records and 1 id of the cache, and 256 peer records
+-- ---- a moment for each: words for 3 entries, for 8 box records (10 slots) and for 1 id of the cache (2 slots), and 256 peer records
 
 abbrev pub settings : MempoolConfig
 settings =
@@ -103,75 +106,111 @@ stateOf w =
       pass = record { «open» = false; out = false; candidate = i 0; time = 0; limit = 0; preheader = 0; spent = 0 };
     }
 
-abbrev entryRows : List Entry → List ℕ
-entryRows [] = []
-entryRows (e ∷ es) =
-    0 ∷ 0 ∷ 0 ∷ e .id ∷ e .weight ∷ e .base ∷ e .size ∷ e .cost ∷ tagOf (e .validationCost) ∷ valueOf (e .validationCost) ∷ e .created ∷ e .lastChecked ∷ e .heightKey ∷ e .inputs ∷ entryRows es
+-- an entry, in a slot in use; its link, and the head of the slot's bucket
+abbrev entryWords : Entry → ℕ → ℕ → List ℕ → List ℕ
+entryWords e link head ws =
+    0 ∷ 0 ∷ 0 ∷ e .id ∷ e .weight ∷ e .base ∷ e .size ∷ e .cost ∷ tagOf (e .validationCost) ∷ valueOf (e .validationCost) ∷ e .created ∷ e .lastChecked ∷ e .heightKey ∷ e .inputs ∷ 1 ∷ link ∷ head ∷ ws
+
+abbrev ids : List Entry → List ℕ
+ids [] = []
+ids (e ∷ es) = e .id ∷ ids es
+
+-- the bucket of the id at index j, of s and by key 0
+abbrev homes : ℕ → List ℕ → ℕ → ℕ
+homes s ks j = bucketOf (getD ks j 0) 0 s
+
+-- s slots from slot j on, in the order of ranks, where the buckets are those of h and n slots are known; then ws
+abbrev entrySlots : (ℕ → ℕ) → ℕ → ℕ → ℕ → List Entry → List ℕ → List ℕ
+entrySlots h n j zero es ws = ws
+entrySlots h n j (suc s) [] ws = replicate 16 0 ++ (prev h n j ∷ entrySlots h n (suc j) s [] ws)
+entrySlots h n j (suc s) (e ∷ es) ws = entryWords e (prev h j (h j)) (prev h n j) (entrySlots h n (suc j) s es ws)
+
+abbrev entryTable : List Entry → List ℕ
+entryTable es = entrySlots (homes 3 (ids es)) (length es) 0 3 es (0 ∷ 1 ∷ 2 ∷ length es ∷ 0 ∷ [])
 
 abbrev flag : Bool → ℕ
 flag true = 1
 flag false = 0
 
--- the eight words of each record at the front, and the two at the back, those of the first record last
-abbrev fronts : List BoxRec → List ℕ
-fronts [] = []
-fronts (r ∷ rs) = 0 ∷ 0 ∷ 0 ∷ 0 ∷ 0 ∷ 0 ∷ flag (r .out) ∷ flag (r .live) ∷ fronts rs
+abbrev boxIds : List BoxRec → List ℕ
+boxIds [] = []
+boxIds (r ∷ rs) = r .box ∷ boxIds rs
 
-abbrev backs : List BoxRec → List ℕ → List ℕ
-backs [] ws = ws
-backs (r ∷ rs) ws = backs rs (r .box ∷ r .owner ∷ ws)
+abbrev owners : List BoxRec → List ℕ
+owners [] = []
+owners (r ∷ rs) = r .owner ∷ owners rs
+
+-- the same of box records, all live, by the buckets h of their boxes and g of their owners
+abbrev boxSlotsOf : (ℕ → ℕ) → (ℕ → ℕ) → ℕ → ℕ → ℕ → List BoxRec → List ℕ → List ℕ
+boxSlotsOf h g n j zero rs ws = ws
+boxSlotsOf h g n j (suc s) [] ws = replicate 11 0 ++ (prev h n j ∷ prev g n j ∷ boxSlotsOf h g n (suc j) s [] ws)
+boxSlotsOf h g n j (suc s) (r ∷ rs) ws =
+    0 ∷ 0 ∷ 0 ∷ r .box ∷ 0 ∷ 0 ∷ 0 ∷ r .owner ∷ flag (r .out) ∷ prev h j (h j) ∷ prev g j (g j) ∷ prev h n j ∷ prev g n j ∷ boxSlotsOf h g n (suc j) s rs ws
+
+abbrev boxTable : List BoxRec → List ℕ
+boxTable rs = boxSlotsOf (homes 10 (boxIds rs)) (homes 10 (owners rs)) (length rs) 0 10 rs (length rs ∷ 0 ∷ [])
 
 abbrev pub with : World → Moment
 with w =
-    moment (entryRows (w .tables .entries) ++ replicate (42 - length (w .tables .entries) * 14) 0)
-    (fronts (w .tables .boxes) ++ (replicate (80 - length (w .tables .boxes) * 10) 0 ++ backs (w .tables .boxes) []))
-    (replicate 5 0)
-    (w .peers ++ replicate (256 - length (w .peers)) noPeer)
-    (stateOf w)
+    moment (entryTable (w .tables .entries)) (boxTable (w .tables .boxes)) (replicate 16 0) (w .peers ++ replicate (256 - length (w .peers)) noPeer) (stateOf w)
 
--- ---- it holds that world, and the counts fit
+-- ---- it holds that world, the counts fit, and the indexes are right
 
 pub record Stands (w : World) : Type 0 where
   pub is : worldAt (with w) ≡ w
-  pub fits : FitsAt (with w)
+  pub kept : KeptAt (with w)
 
-stands : (w : World) → worldAt (with w) ≡ w → leb (length (w .tables .entries)) (entriesRoom (with w .entries)) ≡ true → leb (length (w .tables .boxes)) (boxesRoom (with w .boxes)) ≡ true
-    → leb 1 (cacheRoom (with w .cache)) ≡ true
+-- what is computed of the words: of n entries, which are es, and of n box records
+abbrev entriesStand : List ℕ → List Entry → ℕ → Type 0
+entriesStand l es n = (leb n (slotCount l) ≡ true) × (rawAt l (slotCount l) ≡ n) × (entryIndex l n ≡ true) × (slotsRight l n ≡ true) × (inOrder es n ≡ true) × (eachOnce es n ≡ true)
+
+abbrev boxesStand : List ℕ → ℕ → Type 0
+boxesStand l n = (leb n (boxesRoom l) ≡ true) × (boxIndex l 0 (slotsUsed l n) ≡ true) × (boxIndex l 1 (slotsUsed l n) ≡ true)
+
+stands : (w : World) → worldAt (with w) ≡ w → entriesStand (with w .entries) (w .tables .entries) (length (w .tables .entries)) → boxesStand (with w .boxes) (length (w .tables .boxes))
     → leb (length (w .peers)) 256 ≡ true
     → leb 256 (length (with w .peers)) ≡ true
     → Stands w
-stands w is e b k u r =
-    let pool : PoolFits (with w .entries) (with w .boxes) (stateOf w .counts) = record { entries = entries-room (with w .entries) _ (leb-true _ _ e); boxes = boxes-room (with w .boxes) _ (leb-true _ _ b) } in
+unfolding entriesRoom cacheRoom
+stands w is e b u r =
+    let es : entriesOf (with w .entries) (length (w .tables .entries)) ≡ w .tables .entries = ap (λ (x : World). x .tables .entries) is in
+    let rs : boxesOf (with w .boxes) (length (w .tables .boxes)) ≡ w .tables .boxes = ap (λ (x : World). x .tables .boxes) is in
+    let low = leb-true _ _ (e .0) in
+    let pool : PoolFits (with w .entries) (with w .boxes) (stateOf w .counts) = record { entries = entries-room (with w .entries) _ low; boxes = boxes-room (with w .boxes) _ (leb-true _ _ (b .0)) } in
     record {
       is = is;
-      fits = fits-made (with w) (record { pool = pool; cache = cache-room (with w .cache) 0 (omega arith) }) (leb-true _ _ k) (leb-true _ _ u) (leb-true _ _ r);
+      kept =
+          kept-made (with w) (record { pool = pool; cache = cache-room (with w .cache) 0 (omega arith) }) (leb-true 1 1 refl) (leb-true _ _ u) (leb-true _ _ r)
+          (record {
+            pool =
+                record {
+                  entries = entries-kept (with w .entries) (length (w .tables .entries)) (e .2) (e .3) (rw es (e .4)) (rw es (e .5)) low (e .1);
+                  boxes = boxes-kept (with w .boxes) (length (w .tables .boxes)) (ap length rs) (b .1) (b .2);
+                };
+            cache = cache-none (with w .cache);
+          });
     }
 
-entries-are : (l : List ℕ) (n : ℕ) → entriesOf l n ≡ tab (entryAt l) n
-entries-are l n =
-    ext-getD nobody _ _ (entries .len l n ∙ sym (length-tab (entryAt l) n))
-    (λ j h. let b : j < n = omega (arith, entries .len l n) in entries .get l n j nobody b ∙ sym (getD-tab (entryAt l) n j nobody b))
-
 pub s0 : Stands w0
-unfolding boxesOf slotsOf entriesRoom boxesRoom cacheRoom
-s0 = stands w0 (rw (of-none entries (with w0 .entries), of-none held (replicate 5 0))) refl refl refl refl refl
+unfolding prev checked bounded bucketOf ahead cell rawAt bucketKey slotOf entryFrom entryIn entryAt entriesOf E.used E.homeOf E.hashAt E.linkAt E.headAt idAt keyAt kindAt keyWord usedWord slotAt slotsOf slotsUsed recordsIn boxesOf boxesRoom B.lastAt B.hashAt B.linkAt B.headAt
+s0 = stands w0 (rw (no-rows (replicate 16 0))) (refl, refl, refl, refl, refl, refl) (refl, refl, refl) refl refl
 
 pub s1 : Stands w1
-unfolding entryAt recAt entryDec idAt boxesOf slotsOf slotAt entriesRoom boxesRoom cacheRoom
-s1 = stands w1 (rw (entries-are (with w1 .entries) 1, of-none held (replicate 5 0), small 1, small 7, small 11)) refl refl refl refl refl
+unfolding prev checked bounded bucketOf ahead cell rawAt bucketKey slotOf entryFrom entryIn entryAt entriesOf E.used E.homeOf E.hashAt E.linkAt E.headAt idAt keyAt kindAt keyWord usedWord slotAt slotsOf slotsUsed recordsIn boxesOf boxesRoom B.lastAt B.hashAt B.linkAt B.headAt
+s1 = stands w1 (rw (no-rows (replicate 16 0), small 1, small 7, small 11)) (refl, refl, refl, refl, refl, refl) (refl, refl, refl) refl refl
 
 pub s2 : Stands w2
-unfolding entryAt recAt entryDec idAt boxesOf slotsOf slotAt entriesRoom boxesRoom cacheRoom
-s2 = stands w2 (rw (entries-are (with w2 .entries) 2, of-none held (replicate 5 0), small 1, small 2, small 7, small 11, small 12)) refl refl refl refl refl
+unfolding prev checked bounded bucketOf ahead cell rawAt bucketKey slotOf entryFrom entryIn entryAt entriesOf E.used E.homeOf E.hashAt E.linkAt E.headAt idAt keyAt kindAt keyWord usedWord slotAt slotsOf slotsUsed recordsIn boxesOf boxesRoom B.lastAt B.hashAt B.linkAt B.headAt
+s2 = stands w2 (rw (no-rows (replicate 16 0), small 1, small 2, small 7, small 11, small 12)) (refl, refl, refl, refl, refl, refl) (refl, refl, refl) refl refl
 
 pub s3 : Stands w3
-unfolding entryAt recAt entryDec idAt boxesOf slotsOf slotAt entriesRoom boxesRoom cacheRoom
-s3 = stands w3 (rw (entries-are (with w3 .entries) 2, of-none held (replicate 5 0), small 1, small 3, small 7, small 8, small 11, small 13)) refl refl refl refl refl
+unfolding prev checked bounded bucketOf ahead cell rawAt bucketKey slotOf entryFrom entryIn entryAt entriesOf E.used E.homeOf E.hashAt E.linkAt E.headAt idAt keyAt kindAt keyWord usedWord slotAt slotsOf slotsUsed recordsIn boxesOf boxesRoom B.lastAt B.hashAt B.linkAt B.headAt
+s3 = stands w3 (rw (no-rows (replicate 16 0), small 1, small 3, small 7, small 8, small 11, small 13)) (refl, refl, refl, refl, refl, refl) (refl, refl, refl) refl refl
 
 pub s4 : Stands w4
-unfolding entryAt recAt entryDec idAt boxesOf slotsOf slotAt entriesRoom boxesRoom cacheRoom
-s4 = stands w4 (rw (entries-are (with w4 .entries) 2, of-none held (replicate 5 0), small 1, small 4, small 7, small 8, small 11, small 14)) refl refl refl refl refl
+unfolding prev checked bounded bucketOf ahead cell rawAt bucketKey slotOf entryFrom entryIn entryAt entriesOf E.used E.homeOf E.hashAt E.linkAt E.headAt idAt keyAt kindAt keyWord usedWord slotAt slotsOf slotsUsed recordsIn boxesOf boxesRoom B.lastAt B.hashAt B.linkAt B.headAt
+s4 = stands w4 (rw (no-rows (replicate 16 0), small 1, small 4, small 7, small 8, small 11, small 14)) (refl, refl, refl, refl, refl, refl) (refl, refl, refl) refl refl
 
 pub s5 : Stands w5
-unfolding entryAt recAt entryDec idAt boxesOf slotsOf slotAt entriesRoom boxesRoom cacheRoom
-s5 = stands w5 (rw (entries-are (with w5 .entries) 1, of-none held (replicate 5 0), small 4, small 8, small 14)) refl refl refl refl refl
+unfolding prev checked bounded bucketOf ahead cell rawAt bucketKey slotOf entryFrom entryIn entryAt entriesOf E.used E.homeOf E.hashAt E.linkAt E.headAt idAt keyAt kindAt keyWord usedWord slotAt slotsOf slotsUsed recordsIn boxesOf boxesRoom B.lastAt B.hashAt B.linkAt B.headAt
+s5 = stands w5 (rw (no-rows (replicate 16 0), small 4, small 8, small 14)) (refl, refl, refl, refl, refl, refl) (refl, refl, refl) refl refl

@@ -2,15 +2,19 @@
 -- weight and base of each entry; `len`, `contains` and `spending_tx` are as written"). Counts that do not fit the lent slices are refusal 1
 -- (docs/DECISIONS.md, D2).
 use Prim.Native.Nat.{ℕ, _≤_, _<_}
-use mathlib.Core.Path.{_≡_, refl, sym, ap, _∙_}
-use mathlib.Core.Bool.{Bool, true, false, _||_}
+use mathlib.Core.Path.{_≡_, refl}
+use mathlib.Core.Bool.{Bool, true, false}
 use mathlib.Core.List.{List, [], _∷_}
 use lib.Dec.{leb}
-use lib.ListN.{getD}
 use borrow.Author.Tests.{le-leb, lt-leb}
 use Rattle.words.specs.Lists.{pick}
 use Rattle.words.specs.Find.{found}
+use Rattle.words.specs.Ids.{idOf}
 use Rattle.pool_types.specs.declared.Mempool.{Mempool}
+use Rattle.pool_types.specs.declared.EntryOutcome.{EntryOutcome}
+use Rattle.pool_types.specs.declared.EntryOutcome.the-variants.{Entry as Seen, NoEntry, NotLooked}
+use Rattle.pool_types.specs.declared.TestOutcome.{TestOutcome}
+use Rattle.pool_types.specs.declared.TestOutcome.the-variants.{Yes, No, NotTested}
 use Rattle.pool_types.specs.Outcomes.{Outcome, refused, said, entry, none}
 use Rattle.entries.specs.Entries.{Entry, pooled, placeOf}
 use Rattle.entries.specs.Laws.{at-place, no-place}
@@ -47,39 +51,73 @@ spendingOf e b st box =
     (fitted (leb (st .counts .records) (boxesRoom b))
     (spenderIn (entriesOf e (st .counts .pooled)) (lookup (index false (boxesOf b (st .counts .records))) box)))
 
+-- ---- on any words: refusal 1 where a count does not fit, and what was looked up else
+
+unfoldable pub containsWith : List ℕ → List ℕ → Mempool → Outcome → Outcome
+containsWith e k st o = fitted (leb (st .counts .pooled) (entriesRoom e)) (fitted (leb (st .cached) (cacheRoom k)) o)
+
+unfoldable pub spendingWith : List ℕ → List ℕ → Mempool → Outcome → Outcome
+spendingWith e b st o = fitted (leb (st .counts .pooled) (entriesRoom e)) (fitted (leb (st .counts .records) (boxesRoom b)) o)
+
+-- what an answer says, where it is no refusal
+abbrev pub testSaid : TestOutcome → Outcome
+testSaid Yes = said true
+testSaid No = said false
+testSaid (NotTested n) = said false
+
+abbrev pub entrySeen : EntryOutcome → Outcome
+entrySeen (Seen x w b) = entry (idOf x) w b
+entrySeen NoEntry = none
+entrySeen (NotLooked n) = none
+
 -- ---- test by test
 
-module _ (e k : List ℕ) (st : Mempool) (time id : ℕ) where
-  pub contains-entries : entriesRoom e < st .counts .pooled → refused 1 0 ≡ containsOf e k st time id
-  unfolding containsOf
-  contains-entries h = rw (lt-leb _ _ h)
+-- on any words, and what document 01 asks for: its last two arguments are the time and the id
+module _ (e k : List ℕ) (st : Mempool) where
+  pub contains-entries : (o : Outcome) → entriesRoom e < st .counts .pooled → refused 1 0 ≡ containsWith e k st o
+  unfolding containsWith
+  contains-entries o h = rw (lt-leb _ _ h)
 
-  pub contains-cache : st .counts .pooled ≤ entriesRoom e → cacheRoom k < st .cached → refused 1 0 ≡ containsOf e k st time id
-  unfolding containsOf
-  contains-cache h g = rw (le-leb _ _ h, lt-leb _ _ g)
+  pub contains-cache : (o : Outcome) → st .counts .pooled ≤ entriesRoom e → cacheRoom k < st .cached → refused 1 0 ≡ containsWith e k st o
+  unfolding containsWith
+  contains-cache o h g = rw (le-leb _ _ h, lt-leb _ _ g)
+
+  pub contains-is : (time id : ℕ)
+      → containsOf e k st time id ≡ containsWith e k st (said (pick (pooled id (entriesOf e (st .counts .pooled))) true (held (st .config .«invalidation_ttl») time id (cacheOf k (st .cached)))))
+  unfolding containsOf containsWith
+  contains-is time id = refl
 
   module _ (h : st .counts .pooled ≤ entriesRoom e) (g : st .cached ≤ cacheRoom k) where
-    pub contains-pooled : pooled id (entriesOf e (st .counts .pooled)) ≡ true → said true ≡ containsOf e k st time id
-    unfolding containsOf
-    contains-pooled p = rw (le-leb _ _ h, le-leb _ _ g, p)
+    pub contains-said : (o : Outcome) → o ≡ containsWith e k st o
+    unfolding containsWith
+    contains-said o = rw (le-leb _ _ h, le-leb _ _ g)
 
-    pub contains-held : pooled id (entriesOf e (st .counts .pooled)) ≡ false → (b : Bool) → b ≡ held (st .config .«invalidation_ttl») time id (cacheOf k (st .cached)) → said b ≡ containsOf e k st time id
-    unfolding containsOf
-    contains-held p b q = rw (le-leb _ _ h, le-leb _ _ g, p, q)
+    pub contains-pooled : (time id : ℕ) → pooled id (entriesOf e (st .counts .pooled)) ≡ true → said true ≡ containsOf e k st time id
+    contains-pooled time id p = rw (contains-is time id, p) (contains-said (said true))
 
-module _ (e b : List ℕ) (st : Mempool) (box : ℕ) where
-  pub spending-entries : entriesRoom e < st .counts .pooled → refused 1 0 ≡ spendingOf e b st box
-  unfolding spendingOf
-  spending-entries h = rw (lt-leb _ _ h)
+    pub contains-held : (time id : ℕ) → pooled id (entriesOf e (st .counts .pooled)) ≡ false → (b : Bool) → b ≡ held (st .config .«invalidation_ttl») time id (cacheOf k (st .cached)) → said b ≡ containsOf e k st time id
+    contains-held time id p b q = rw (contains-is time id, p, ← q) (contains-said (said b))
 
-  pub spending-boxes : st .counts .pooled ≤ entriesRoom e → boxesRoom b < st .counts .records → refused 1 0 ≡ spendingOf e b st box
-  unfolding spendingOf
-  spending-boxes h g = rw (le-leb _ _ h, lt-leb _ _ g)
+module _ (e b : List ℕ) (st : Mempool) where
+  pub spending-entries : (o : Outcome) → entriesRoom e < st .counts .pooled → refused 1 0 ≡ spendingWith e b st o
+  unfolding spendingWith
+  spending-entries o h = rw (lt-leb _ _ h)
 
-  pub spending-by : st .counts .pooled ≤ entriesRoom e → st .counts .records ≤ boxesRoom b → (ks : List ℕ) → ks ≡ lookup (index false (boxesOf b (st .counts .records))) box
-      → spenderIn (entriesOf e (st .counts .pooled)) ks ≡ spendingOf e b st box
-  unfolding spendingOf
-  spending-by h g ks q = rw (le-leb _ _ h, le-leb _ _ g, q)
+  pub spending-boxes : (o : Outcome) → st .counts .pooled ≤ entriesRoom e → boxesRoom b < st .counts .records → refused 1 0 ≡ spendingWith e b st o
+  unfolding spendingWith
+  spending-boxes o h g = rw (le-leb _ _ h, lt-leb _ _ g)
+
+  pub spending-is : (box : ℕ) → spendingOf e b st box ≡ spendingWith e b st (spenderIn (entriesOf e (st .counts .pooled)) (lookup (index false (boxesOf b (st .counts .records))) box))
+  unfolding spendingOf spendingWith
+  spending-is box = refl
+
+  module _ (h : st .counts .pooled ≤ entriesRoom e) (g : st .counts .records ≤ boxesRoom b) where
+    pub spending-seen : (o : Outcome) → o ≡ spendingWith e b st o
+    unfolding spendingWith
+    spending-seen o = rw (le-leb _ _ h, le-leb _ _ g)
+
+    pub spending-by : (box : ℕ) (ks : List ℕ) → ks ≡ lookup (index false (boxesOf b (st .counts .records))) box → spenderIn (entriesOf e (st .counts .pooled)) ks ≡ spendingOf e b st box
+    spending-by box ks q = rw (spending-is box, ← q) (spending-seen (spenderIn (entriesOf e (st .counts .pooled)) ks))
 
 -- ---- an entry by its place
 

@@ -16,12 +16,13 @@ use pool_types::Mempool;
 use pool_types::TestOutcome;
 use words::ids::Id;
 ghost use mathlib.Core.Path.{_≡_};
-ghost use lib.ListN.{length};
 ghost use Rattle.words.specs.Ids.{idOf};
 ghost use Rattle.words.specs.Find.{found};
 ghost use Rattle.pool_types.specs.Outcomes.{testedOf, lookedOf};
-ghost use Rattle.entries.specs.Layout.{EntriesOk, entriesOf};
-ghost use Rattle.mempool.specs.Queries.{containsOf, spendingOf, entryOutcome};
+ghost use Rattle.entries.specs.Layout.{EntriesOk, EntriesKept, entriesOf};
+ghost use Rattle.boxes.specs.Index.{BoxesKept};
+ghost use Rattle.expiring_cache.specs.Layout.{CacheKept};
+ghost use Rattle.mempool.specs.Queries.{containsOf, spendingOf, containsWith, spendingWith, testSaid, entrySeen, entryOutcome};
 
 // How many transactions are pooled.
 pub fn len(mempool: Mempool) -> usize
@@ -32,7 +33,8 @@ pub fn len(mempool: Mempool) -> usize
 
 // Whether a transaction is pooled, or its id held in the cache at this time.
 pub fn contains(entries: &[u64], cache: &[u64], mempool: Mempool, time: u64, id: Id) -> TestOutcome
-    ensures { λ r. ⌜ testedOf r ≡ containsOf (now (entries .entry)) (now (cache .entry)) mempool time (idOf id) ⌝ }
+    ensures { λ r. ⌜ testedOf r ≡ containsWith (now (entries .entry)) (now (cache .entry)) mempool (testSaid r) ⌝ }
+    ensures { λ r. ⌜ (EntriesKept (now (entries .entry)) (mempool .counts .pooled) → CacheKept (now (cache .entry)) (mempool .cached) → testedOf r ≡ containsOf (now (entries .entry)) (now (cache .entry)) mempool time (idOf id)) ⌝ }
 {
     if entries_room(entries) < mempool.counts.pooled {
         return TestOutcome::NotTested(1);
@@ -58,7 +60,8 @@ pub fn contains(entries: &[u64], cache: &[u64], mempool: Mempool, time: u64, id:
 // A pooled transaction's id, weight and base.
 fn entry_of(entries: &[u64], pooled: usize, id: Id) -> EntryOutcome
     requires { ⌜ EntriesOk (now entries) pooled ⌝ }
-    ensures { λ r. ⌜ lookedOf r ≡ entryOutcome (found (λ x. x .id) (idOf id) (entriesOf (now (entries .entry)) pooled)) ⌝ }
+    ensures { λ r. ⌜ lookedOf r ≡ entrySeen r ⌝ }
+    ensures { λ r. ⌜ (EntriesKept (now (entries .entry)) pooled → lookedOf r ≡ entryOutcome (found (λ x. x .id) (idOf id) (entriesOf (now (entries .entry)) pooled))) ⌝ }
 {
     let place = find_entry(entries, pooled, id);
     match place {
@@ -75,7 +78,8 @@ fn entry_of(entries: &[u64], pooled: usize, id: Id) -> EntryOutcome
 
 // The transaction that spends a box: the owner of the box as an input, not as an output.
 pub fn spending_tx(entries: &[u64], boxes: &[u64], mempool: Mempool, key: Id) -> EntryOutcome
-    ensures { λ r. ⌜ lookedOf r ≡ spendingOf (now (entries .entry)) (now (boxes .entry)) mempool (idOf key) ⌝ }
+    ensures { λ r. ⌜ lookedOf r ≡ spendingWith (now (entries .entry)) (now (boxes .entry)) mempool (entrySeen r) ⌝ }
+    ensures { λ r. ⌜ (EntriesKept (now (entries .entry)) (mempool .counts .pooled) → BoxesKept (now (boxes .entry)) (mempool .counts .records) → lookedOf r ≡ spendingOf (now (entries .entry)) (now (boxes .entry)) mempool (idOf key)) ⌝ }
 {
     if entries_room(entries) < mempool.counts.pooled {
         return EntryOutcome::NotLooked(1);

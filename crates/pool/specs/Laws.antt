@@ -17,10 +17,11 @@ use Rattle.pool_types.specs.declared.Counts.{Counts}
 use Rattle.entries.specs.Entries.{Entry, pooled}
 use Rattle.entries.specs.Layout.{entriesOf, entriesRoom, entries}
 use Rattle.entries.specs.Layout.{ok-room as room-entries, room-ok as entries-room}
-use Rattle.boxes.specs.Layout.{boxesOf, boxesRoom, boxes-few}
+use Rattle.boxes.specs.Layout.{boxesOf, boxesRoom}
+use Rattle.boxes.specs.Index.{BoxesKept, kept-count}
 use Rattle.boxes.specs.Layout.{room-ok as room-boxes, ok-room as boxes-room}
 use Rattle.boxes.specs.Flat.{idsTo, ids}
-use Rattle.pool.specs.Pool.{Tables, tablesOf, PoolFits, fitsTest, Room, Left, noRoom, removeTx, removeAll, lowest, dropLow, trim, trimmed, evict, evicted}
+use Rattle.pool.specs.Pool.{Tables, tablesOf, PoolFits, PoolKept, fitsTest, Room, noRoom, removeTx, removeAll, lowest, dropLow, trim, trimmed, evict, evicted}
 
 -- ---- counts and room
 
@@ -36,9 +37,34 @@ module _ (e b : List ℕ) (c : Counts) where
   pub fits-holds : PoolFits e b c → fitsTest e b c ≡ true
   fits-holds f = rw (le-leb _ _ (entries-room e (c .pooled) (f .entries))) (le-leb _ _ (boxes-room b (c .records) (f .boxes)))
 
+  -- the code's test of 27: where it is passed there is room, and where the indexes are right it is document 01's
+  module _ (needed : ℕ) {m r : ℕ} (p : m ≡ entriesRoom e) (q : r ≡ boxesRoom b) (f : PoolFits e b c) where
+    pub room-none : m ≤ c .pooled → BoxesKept b (c .records) → false ≡ not (noRoom (entriesRoom e) (boxesRoom b) (tablesOf e b c) needed)
+    room-none h k = let h' : entriesRoom e ≤ length (entriesOf e (c .pooled)) = omega (arith, entries .len e (c .pooled)) in rw (le-leb _ _ h')
+
+    pub room-some : c .pooled < m → leb needed (r - c .records) ≡ true → Room e b c needed
+    room-some h t =
+        record {
+          entries = room-entries e (c .pooled + 1) (omega arith);
+          boxes = f .boxes;
+          free = omega (arith, leb-true needed (r - c .records) t, boxes-room b (c .records) (f .boxes));
+        }
+
+    pub room-told : c .pooled < m → BoxesKept b (c .records) → leb needed (r - c .records) ≡ not (noRoom (entriesRoom e) (boxesRoom b) (tablesOf e b c) needed)
+    room-told h k =
+        let h' : length (entriesOf e (c .pooled)) < entriesRoom e = omega (arith, entries .len e (c .pooled)) in
+        rw (lt-leb _ _ h', kept-count b (c .records) k, ← q) (same (decLe needed (r - c .records)))
+      where
+        low : c .records ≤ r
+        low = omega (arith, boxes-room b (c .records) (f .boxes))
+
+        same : Dec (needed ≤ r - c .records) → leb needed (r - c .records) ≡ not (ltb r (c .records + needed))
+        same (yes k) = rw (le-leb _ _ k, le-ltb r (c .records + needed) (omega (arith, low)))
+        same (no k) = rw (lt-leb needed (r - c .records) (omega (arith, k)), lt-ltb r (c .records + needed) (omega (arith, k, low)))
+
   -- where refusal 27 is not given there is room
-  pub room-left : (needed : ℕ) → PoolFits e b c → noRoom (entriesRoom e) (boxesRoom b) (tablesOf e b c) needed ≡ false → Room e b c needed
-  room-left needed f h = go (leb (entriesRoom e) (length (entriesOf e (c .pooled)))) refl h
+  pub room-left : (needed : ℕ) → PoolFits e b c → BoxesKept b (c .records) → noRoom (entriesRoom e) (boxesRoom b) (tablesOf e b c) needed ≡ false → Room e b c needed
+  room-left needed f k h = go (leb (entriesRoom e) (length (entriesOf e (c .pooled)))) refl h
     where
       go : (t : Bool) → leb (entriesRoom e) (length (entriesOf e (c .pooled))) ≡ t → (t || ltb (boxesRoom b) (length (boxesOf b (c .records)) + needed)) ≡ false → Room e b c needed
       go true p q = let z : _≡_ {A = ℕ} 0 1 = cc in absurd (omega arith)
@@ -47,34 +73,12 @@ module _ (e b : List ℕ) (c : Counts) where
           record {
             entries = room-entries e (c .pooled + 1) (omega (arith, entries .len e (c .pooled)));
             boxes = f .boxes;
-            free = ltb-false (boxesRoom b) (length (boxesOf b (c .records)) + needed) q;
+            free = omega (arith, ltb-false (boxesRoom b) (length (boxesOf b (c .records)) + needed) q, kept-count b (c .records) k);
           }
 
-  -- the code's tests are those of 27
-  module _ (needed : ℕ) where
-    pub room-none : {m : ℕ} → m ≡ entriesRoom e → m ≤ c .pooled → false ≡ not (noRoom (entriesRoom e) (boxesRoom b) (tablesOf e b c) needed)
-    room-none {m} p h = let h' : entriesRoom e ≤ length (entriesOf e (c .pooled)) = omega (arith, entries .len e (c .pooled)) in rw (le-leb _ _ h')
-
-    -- n records are there, in at most as many slots
-    pub room-some : {m r : ℕ} (n : ℕ) → m ≡ entriesRoom e → r ≡ boxesRoom b → c .pooled < m → n ≡ length (boxesOf b (c .records)) → n ≤ r → leb needed (r - n) ≡ not (noRoom (entriesRoom e) (boxesRoom b) (tablesOf e b c) needed)
-    room-some {m} {r} n p q h e' l =
-        let h' : length (entriesOf e (c .pooled)) < entriesRoom e = omega (arith, entries .len e (c .pooled)) in
-        rw (lt-leb _ _ h', ← e', ← q) (same (decLe needed (r - n)))
-      where
-        same : Dec (needed ≤ r - n) → leb needed (r - n) ≡ not (ltb r (n + needed))
-        same (yes k) = rw (le-leb _ _ k, le-ltb r (n + needed) (omega arith))
-        same (no k) = rw (lt-leb needed (r - n) (omega (arith, k)), lt-ltb r (n + needed) (omega (arith, k)))
-
-    -- .. and need not be counted where the slots leave room
-    pub room-plenty : {m r : ℕ} → m ≡ entriesRoom e → r ≡ boxesRoom b → c .pooled < m → c .records ≤ r → needed ≤ r - c .records → true ≡ not (noRoom (entriesRoom e) (boxesRoom b) (tablesOf e b c) needed)
-    room-plenty {m} {r} p q h l k =
-        let h' : length (entriesOf e (c .pooled)) < entriesRoom e = omega (arith, entries .len e (c .pooled)) in
-        let k' : length (boxesOf b (c .records)) + needed ≤ boxesRoom b = omega (arith, boxes-few b (c .records)) in
-        rw (lt-leb _ _ h', le-ltb _ _ k')
-
--- what holds of the number of used slots, which no rule fixes: each record has one, and the words have room for them
-pub slots-used : (e b : List ℕ) (c : Counts) (t : Tables) → Left e b c t → (length (t .boxes) ≤ c .records) × (c .records ≤ boxesRoom b)
-slots-used e b c t l = (omega (arith, boxes-few b (c .records), ap (λ (x : Tables). length (x .boxes)) (l .tables)), boxes-room b (c .records) (l .fits .boxes))
+  -- the state's count of box records is their number
+  pub records-counted : PoolKept e b c → length (tablesOf e b c .boxes) ≡ c .records
+  records-counted k = kept-count b (c .records) (k .boxes)
 
 -- ---- a removal: whether one was there shows in how many are left
 

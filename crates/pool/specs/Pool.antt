@@ -9,10 +9,11 @@ use Rattle.words.specs.Lists.{pick}
 use Rattle.words.specs.Find.{without, last, dropLast}
 use Rattle.pool_types.specs.declared.Counts.{Counts}
 use Rattle.entries.specs.Entries.{Entry, ahead, insertBy, pooled, credit}
-use Rattle.entries.specs.Layout.{entriesOf, entriesRoom, EntriesOk}
+use Rattle.entries.specs.Layout.{entriesOf, entriesRoom, EntriesOk, EntriesKept}
 use Rattle.entries.specs.declared.fields.ValidationCost.the-variants.{Unmeasured}
 use Rattle.boxes.specs.Records.{BoxRec, enterTx, dropOwner}
 use Rattle.boxes.specs.Layout.{boxesOf, boxesRoom, BoxesOk}
+use Rattle.boxes.specs.Index.{BoxesKept}
 
 pub record Tables : Type 0 where
   pub entries : List Entry
@@ -32,15 +33,27 @@ pub record PoolFits (e b : List ℕ) (c : Counts) : Type 0 where
 abbrev pub fitsTest : List ℕ → List ℕ → Counts → Bool
 fitsTest e b c = leb (c .pooled) (entriesRoom e) && leb (c .records) (boxesRoom b)
 
+-- both indexes are right: an accepted start makes it, every call keeps it, and no test can tell it
+pub record PoolKept (e b : List ℕ) (c : Counts) : Type 0 where
+  pub entries : EntriesKept e (c .pooled)
+  pub boxes : BoxesKept b (c .records)
+
 -- the words have room for one more entry and so many more records
 pub record Room (e b : List ℕ) (c : Counts) (needed : ℕ) : Type 0 where
   pub entries : EntriesOk e (c .pooled + 1)
   pub boxes : BoxesOk b (c .records)
-  pub free : length (boxesOf b (c .records)) + needed ≤ boxesRoom b
+  pub free : c .records + needed ≤ boxesRoom b
 
--- what a call leaves: words and counts that fit, and these tables in them
+-- what a removal leaves on any words: no more than there was
+pub record Fewer (e b : List ℕ) (c d : Counts) : Type 0 where
+  pub fits : PoolFits e b d
+  pub entries : d .pooled ≤ c .pooled
+  pub records : d .records ≤ c .records
+
+-- what a call leaves: words and counts that fit, right indexes, and these tables
 pub record Left (e b : List ℕ) (c : Counts) (t : Tables) : Type 0 where
   pub fits : PoolFits e b c
+  pub kept : PoolKept e b c
   pub tables : tablesOf e b c ≡ t
 
 -- refusal 27: "no free entry, or fewer free box records than inputs plus outputs", of E entries and R records

@@ -27,7 +27,7 @@ use Rattle.console.specs.declared.calls.Call.the-variants as call
 use Rattle.console.specs.declared.calls.Change.{Change}
 use Rattle.console.specs.declared.calls.Change.the-variants.{Submit, Return, Block, Invalidate, Open, Next, Answer}
 use Rattle.ledger.specs.Ledger.{Heard}
-use Rattle.ledger.specs.Run.{Moment, moment, worldAt, FitsAt, passAt, Became, Becomes, Step, Begun}
+use Rattle.ledger.specs.Run.{Moment, moment, worldAt, KeptAt, passAt, Became, Becomes, Step, Begun}
 use Rattle.ledger.specs.Theorem.{Told, accepted-start, empty-world, empty-pass, told-begin, told-call, told-still, told-demand3}
 use Rattle.ledger.specs.Demand3.{Demand3}
 use Rattle.poolrun.specs.Input as input
@@ -92,7 +92,7 @@ module _ {s s' : State} {t : List ℕ} (x : Answered s t s') where
   -- what is held then is what the line says
   became : {ready : Bool} {config : MempoolConfig} {r : PassResult} (o : Outcome) → o ≡ r .outcome → LineIs (x .to) ready config r → config ≡ s .kept .mempool .config → Became (momentOf s) (momentOf s') o r
   became o q l z =
-      record { fits = x .leaves .holds .fits; config = x .leaves .config ∙ l .config ∙ z; outcome = q; world = x .leaves .world ∙ l .world; pass = x .leaves .pass ∙ l .pass }
+      record { kept = x .leaves .holds .store; config = x .leaves .config ∙ l .config ∙ z; outcome = q; world = x .leaves .world ∙ l .world; pass = x .leaves .pass ∙ l .pass }
 
   is-as : {m : Line} {ready : Bool} {config : MempoolConfig} {r : PassResult} → x .to ≡ m → LineIs m ready config r → LineIs (x .to) ready config r
   is-as e l = rw e l
@@ -140,7 +140,7 @@ since-told {g} one (begins {s = s} {s' = s'} x p st q e c) =
     (record {
       sizes = sizesOf (s .words);
       accepted = ap (started (sizesOf (s .words))) (sym c) ∙ e ∙ ap Ready new;
-      fits = x .leaves .holds .fits;
+      kept = x .leaves .holds .store;
       config = x .leaves .config ∙ ap (λ (m : Line). m .config) to ∙ ap (λ (m : Mempool). m .config) new;
       world = x .leaves .world ∙ ap (λ (m : Line). m .world) to ∙ ap (worldOf (s .words .entries) (s .words .boxes) (s .words .cache) (records (s .words .peers))) new ∙ empty-world (s .words .entries) (s .words .boxes) (s .words .cache) (records (s .words .peers)) g;
       pass = x .leaves .pass ∙ ap (λ (m : Line). m .pass) to ∙ ap (λ (m : Mempool). passOf (m .pass)) new ∙ empty-pass g;

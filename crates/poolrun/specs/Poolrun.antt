@@ -28,9 +28,9 @@ use Rattle.poolrun.specs.Input.{Words, State, stateOf, wordsOf, atStart,
 -- the buffers have the sizes that every answer needs: a text has at most 32,768 bytes, and the last place is its newline's
 pub record Sized (l e b k p a i f s o : List ℕ) : Type 0 where
   pub line : length l ≡ 4097
-  pub entries : length e ≡ 1792
-  pub boxes : length b ≡ 10240
-  pub cache : length k ≡ 5000
+  pub entries : length e ≡ 2306
+  pub boxes : length b ≡ 16642
+  pub cache : length k ≡ 8752
   pub peers : length p ≡ 512
   pub answer : length a ≡ 1024
   pub listing : length i ≡ 1024

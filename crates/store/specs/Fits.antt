@@ -10,10 +10,10 @@ use lib.ListN.{length}
 use borrow.Author.Tests.{leb-true, leb-false, ltb-false, le-leb, lt-leb, lt-ltb, le-ltb}
 use Rattle.words.specs.Lists.{pick}
 use Rattle.pool_types.specs.declared.Mempool.{Mempool}
-use Rattle.expiring_cache.specs.Layout.{cacheRoom, CacheOk}
+use Rattle.expiring_cache.specs.Layout.{cacheRoom, CacheOk, CacheKept}
 use Rattle.expiring_cache.specs.Layout.{ok-room as room-cache, room-ok as cache-room}
 use Rattle.peers.specs.declared.PeerRecord.{PeerRecord}
-use Rattle.pool.specs.Pool.{PoolFits, fitsTest}
+use Rattle.pool.specs.Pool.{PoolFits, PoolKept, fitsTest}
 use Rattle.pool.specs.Laws.{fits-true, fits-holds}
 
 -- words of entries, boxes and cache: the counts fit
@@ -27,6 +27,17 @@ pub record Fits (e b k : List ℕ) (ys : List PeerRecord) (st : Mempool) : Type 
   pub keeps : max (st .config .«invalidation_capacity») 1 ≤ cacheRoom k
   pub records : 256 ≤ length ys
   pub used : st .sums .peers ≤ 256
+
+-- the indexes of pool and cache are right. No test can tell it in less time than the indexes save, so it is no refusal: an accepted start makes it of any
+-- words, and every call keeps it
+pub record Indexed (e b k : List ℕ) (st : Mempool) : Type 0 where
+  pub pool : PoolKept e b (st .counts)
+  pub cache : CacheKept k (st .cached)
+
+-- what the definitions of the calls are met by
+pub record Kept (e b k : List ℕ) (ys : List PeerRecord) (st : Mempool) : Type 0 where
+  pub fits : Fits e b k ys st
+  pub indexed : Indexed e b k st
 
 -- ---- the tests: of pool and cache, and of all, where n records are lent
 

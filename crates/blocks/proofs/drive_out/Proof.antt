@@ -20,7 +20,7 @@ same-length : tie.Need-same-length
 same-length c = search needs
 
 returns : tie.Need-returns
-returns c = does-itself (idOf (c .before .before .before .before .before .before .before .before .before .before .before .args .id)) _ _ _ _ _ _ (sym (ap ownerIds (c .before .before .before .owner .given .1)) ∙ c .before .before .before .before .before .spender .ensures) (c .before .before .before .before .before .before .before .before .before .before .before .pre) (sym (c .before .same-id .ensures) ∙ c .if1 .taken)
+returns c = does-itself (idOf (c .before .before .before .before .before .before .before .before .before .before .before .args .id)) _ _ _ _ _ _ (λ kept. sym (ap ownerIds (c .before .before .before .owner .given .1)) ∙ c .before .before .before .before .before .spender .ensures kept) (c .before .before .before .before .before .before .before .before .before .before .before .pre) (sym (c .before .same-id .ensures) ∙ c .if1 .taken)
 
 take-out-requires : tie.Need-take-out-requires
 take-out-requires c κs = c .before .before .before .before .before .before .before .before .before .before .before .before .before .before .pre
@@ -38,13 +38,13 @@ same-length-4 : tie.Need-same-length-4
 same-length-4 c = search needs
 
 returns-2 : tie.Need-returns-2
-returns-2 c = does-rival (idOf (c .before .before .before .before .before .before .before .before .before .before .before .before .before .before .before .before .before .before .before .before .before .args .id)) _ _ _ _ _ _ (sym (ap ownerIds (c .before .before .before .before .before .before .before .before .before .before .before .before .before .owner .given .1)) ∙ c .before .before .before .before .before .before .before .before .before .before .before .before .before .before .before .spender .ensures) (sym (c .before .before .before .before .before .before .before .before .before .before .before .same-id .ensures) ∙ c .before .before .before .before .before .before .before .before .before .before .if1 .left) (c .before .before .before .before .before .before .take-out .ensures)
+returns-2 c = does-rival (idOf (c .before .before .before .before .before .before .before .before .before .before .before .before .before .before .before .before .before .before .before .before .before .args .id)) _ _ _ _ _ _ (λ kept. sym (ap ownerIds (c .before .before .before .before .before .before .before .before .before .before .before .before .before .owner .given .1)) ∙ c .before .before .before .before .before .before .before .before .before .before .before .before .before .before .before .spender .ensures kept) (sym (c .before .before .before .before .before .before .before .before .before .before .before .same-id .ensures) ∙ c .before .before .before .before .before .before .before .before .before .before .if1 .left) (c .before .before .before .before .before .before .take-out .ensures)
 
 same-length-5 : tie.Need-same-length-5
 same-length-5 c = search needs
 
 returns-3 : tie.Need-returns-3
-returns-3 c = does-nobody _ _ _ _ _ _ (sym (ap ownerIds (c .enum-told .given .1)) ∙ c .before .before .spender .ensures) (c .before .before .before .before .before .before .before .before .pre)
+returns-3 c = does-nobody _ _ _ _ _ _ (λ kept. sym (ap ownerIds (c .enum-told .given .1)) ∙ c .before .before .spender .ensures kept) (c .before .before .before .before .before .before .before .before .pre)
 
 pub drive-out-spec : {M : Type 1} → statement M
 drive-out-spec =

@@ -16,13 +16,13 @@ same-length-2 : tie.Need-same-length-2
 same-length-2 c = search needs
 
 returns : tie.Need-returns
-returns c = does-nothing _ _ _ _ _ _ _ _ (c .before .before .before .before .before .before .before .remove .ensures) (omega arith)
+returns c = does-nothing _ _ _ _ _ _ _ _ (c .before .before .before .before .before .before .before .remove .ensures .0) (c .before .before .before .before .before .before .before .remove .ensures .1) (omega arith)
 
 write-id-requires : tie.Need-write-id-requires
 write-id-requires c κs = search needs
 
 add-t16 : tie.Need-add-t16
-add-t16 c = omega (arith, one-more _ _ _ [] _ _ _ _ (c .before .before .before .before .before .before .before .before .before .before .before .before .remove .ensures) (c .before .before .before .before .before .before .before .before .before .before .before .before .before .before .before .before .before .before .before .pre) (λ z. omega (arith, c .before .before .before .before .before .if1 .left)))
+add-t16 c = omega (arith, one-more _ _ _ [] _ _ _ _ (c .before .before .before .before .before .before .before .before .before .before .before .before .remove .ensures .0) (c .before .before .before .before .before .before .before .before .before .before .before .before .remove .ensures .1) (c .before .before .before .before .before .before .before .before .before .before .before .before .before .before .before .before .before .before .before .pre) (λ z. omega (arith, c .before .before .before .before .before .if1 .left)))
 
 same-length-3 : tie.Need-same-length-3
 same-length-3 c = search needs
@@ -34,7 +34,7 @@ same-length-5 : tie.Need-same-length-5
 same-length-5 c = search needs
 
 returns-2 : tie.Need-returns-2
-returns-2 c = does-leave _ _ _ _ _ _ _ _ (c .before .before .before .before .before .before .before .before .before .before .before .before .remove .ensures) _ _ _ (λ z. omega (arith, c .before .before .before .before .before .if1 .left)) (omega arith) (omega arith) (c .before .before .before .write-id .ensures)
+returns-2 c = does-leave _ _ _ _ _ _ _ _ (c .before .before .before .before .before .before .before .before .before .before .before .before .remove .ensures .0) (c .before .before .before .before .before .before .before .before .before .before .before .before .remove .ensures .1) _ _ _ (λ z. omega (arith, c .before .before .before .before .before .if1 .left)) (omega arith) (omega arith) (c .before .before .before .write-id .ensures)
 
 pub take-out-spec : {M : Type 1} → statement M
 take-out-spec =

@@ -5,7 +5,7 @@ use Rattle.pool_types.specs.Outcomes.{refused, answeredOf}
 use Rattle.store.specs.Fits.{met, was-met, not-met, cache-fits, cache-holds}
 use Rattle.store.specs.Spares.{spares-same, spares-missing}
 use Rattle.cleanup.specs.Numbers.{ofAnswer}
-use Rattle.cleanup.specs.Laws.{unfit-by, answer-unfit, answer-stopped, answer-flags, answer-numbered, answer-missing, answer-weighed}
+use Rattle.cleanup.specs.Laws.{unfit-by, answer-unfit, answer-stopped, answer-numbered, answer-missing, answer-weighed}
 use Rattle.cleanup.proofs.answer.Statement.{statement}
 use Rattle.cleanup.proofs.answer.Tie as tie
 
@@ -34,7 +34,7 @@ returns : tie.Need-returns
 unfolding answeredOf
 returns c =
     rw (c .not-answered .ensures) (
-      λ ys f. not-met (c .before .before .before .before .fits-cache .ensures) (c .before .before .before .if1 .taken) (cache-holds _ _ _ _ ys f),
+      λ ys f. not-met (c .before .before .before .before .fits-cache .ensures) (c .before .before .before .if1 .taken) (cache-holds _ _ _ _ ys (f .fits)),
       (
         answer-unfit (c .before .before .none-out .result) (c .before .unfit .ensures),
         (λ ys a. spares-same _ _, λ _. ap (λ n. refused n 0) (unfit-by (c .before .before .none-out .result) (c .before .unfit .ensures) (c .before .before .none-out .ensures))),
@@ -59,15 +59,15 @@ same-length-6 c = search needs
 returns-2 : tie.Need-returns-2
 returns-2 c =
     rw (c .not-answered2 .ensures) (
-      answer-stopped _ _ _ _ _ _ (c .before .before .check-answer .ensures) (c .before .if2 .taken),
+      answer-stopped _ _ _ _ _ _ (c .before .before .check-answer .ensures .1) (c .before .if2 .taken),
       (
-        answer-numbered _ _ _ (c .before .before .check-answer .ensures) (c .before .if2 .taken),
+        answer-numbered (c .before .before .check-answer .ensures .0) (c .before .if2 .taken),
         (λ ys a. spares-same _ _, was-met (c .before .before .before .before .before .fits-cache .ensures) (c .before .before .before .before .if1 .left)),
       ),
     )
 
 answer-resolved-requires : tie.Need-answer-resolved-requires
-answer-resolved-requires c κs = (cache-fits _ _ _ _ (met (c .before .before .before .before .before .before .fits-cache .ensures) (c .before .before .before .before .before .if1 .left)) .0 .pool .boxes, answer-flags _ _ _ (c .before .before .before .check-answer .ensures) (c .before .before .if2 .left))
+answer-resolved-requires c κs = cache-fits _ _ _ _ (met (c .before .before .before .before .before .before .fits-cache .ensures) (c .before .before .before .before .before .if1 .left)) .0 .pool .boxes
 
 take-out-requires : tie.Need-take-out-requires
 take-out-requires c κs = cache-fits _ _ _ _ (met (c .before .before .before .before .before .before .before .before .before .before .fits-cache .ensures) (c .before .before .before .before .before .before .before .before .before .if1 .left)) .0 .pool
@@ -84,7 +84,7 @@ same-length-9 c = search needs
 returns-3 : tie.Need-returns-3
 unfolding ofAnswer answeredOf
 returns-3 c = (
-  answer-missing _ _ _ _ _ _ (c .before .before .before .before .before .before .before .before .before .before .before .before .check-answer .ensures) (c .before .before .before .before .before .before .before .before .before .before .before .if2 .left) (c .before .before .before .before .before .before .before .before .answer-resolved .ensures) (c .before .before .before .before .before .before .before .if3 .taken) _ _ _ (c .before .before .before .before .take-out .ensures),
+  answer-missing _ _ _ _ _ _ (c .before .before .before .before .before .before .before .before .before .before .before .before .check-answer .ensures .1) (c .before .before .before .before .before .before .before .before .before .before .before .if2 .left) (c .before .before .before .before .before .before .before .before .answer-resolved .ensures) (c .before .before .before .before .before .before .before .if3 .taken) _ _ _ (c .before .before .before .before .take-out .ensures),
   (
     refl,
     (
@@ -108,7 +108,7 @@ same-length-12 c = search needs
 
 returns-4 : tie.Need-returns-4
 returns-4 c = (
-  answer-weighed _ _ _ _ _ _ (c .before .before .before .before .before .before .before .before .before .before .before .before .before .before .before .check-answer .ensures) (c .before .before .before .before .before .before .before .before .before .before .before .before .before .before .if2 .left) (c .before .before .before .before .before .before .before .before .before .before .before .answer-resolved .ensures) (c .before .before .before .before .before .before .before .before .before .before .if3 .left) _ _ _ _ _ (c .before .before .before .before .before .before .weigh .ensures .0),
+  answer-weighed _ _ _ _ _ _ (c .before .before .before .before .before .before .before .before .before .before .before .before .before .before .before .check-answer .ensures .1) (c .before .before .before .before .before .before .before .before .before .before .before .before .before .before .if2 .left) (c .before .before .before .before .before .before .before .before .before .before .before .answer-resolved .ensures) (c .before .before .before .before .before .before .before .before .before .before .if3 .left) _ _ _ _ _ (c .before .before .before .before .before .before .weigh .ensures .0),
   (
     c .before .before .before .before .before .before .weigh .ensures .1 .0,
     (

@@ -14,7 +14,7 @@ same-length : tie.Need-same-length
 same-length c = search needs
 
 returns : tie.Need-returns
-returns c = stepped-stamp _ _ _ (c .before .before .before .answered-with .ensures) (c .before .before .before .before .before .before .stamp-entry .ensures)
+returns c = λ b h k. stepped-stamp _ _ _ (c .before .before .before .answered-with .ensures) (c .before .before .before .before .before .before .stamp-entry .ensures (k .entries)) b h (k .boxes)
 
 pub stamp-spec : {M : Type 1} → statement M
 stamp-spec = tie.close (tie.spec stamp-entry-requires answered-with-requires same-length returns)

@@ -20,7 +20,7 @@ same-length-2 : tie.Need-same-length-2
 same-length-2 c = search needs
 
 returns : tie.Need-returns
-returns c = stepped-out _ _ _ (c .before .before .answered-with .ensures) _ _ (c .before .before .before .before .before .before .before .remove .ensures) (c .before .before .before .before .before .before .before .before .before .before .previous-cost .ensures)
+returns c = λ k. stepped-out _ _ _ (c .before .before .answered-with .ensures) _ _ (c .before .before .before .before .before .before .before .remove .ensures .1 k) (c .before .before .before .before .before .before .before .before .before .before .previous-cost .ensures (k .entries))
 
 pub take-out-spec : {M : Type 1} → statement M
 take-out-spec =

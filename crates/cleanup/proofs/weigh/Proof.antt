@@ -18,7 +18,7 @@ remember-requires : tie.Need-remember-requires
 remember-requires c κs = search needs
 
 take-out-requires : tie.Need-take-out-requires
-take-out-requires c κs = still-fits _ _ _ _ _ _ (c .before .before .before .before .remember .ensures) (c .before .before .before .before .before .before .before .before .before .before .before .before .pre .0 .pool)
+take-out-requires c κs = still-fits (c .before .before .before .before .before .before .before .before .before .before .before .before .args .mempool) _ _ (c .before .before .before .before .remember .ensures .0 .1) (c .before .before .before .before .before .before .before .before .before .before .before .before .pre .0 .pool)
 
 enum-known-verdict : tie.Need-enum-known-verdict
 enum-known-verdict c = search needs
@@ -41,7 +41,7 @@ same-length-3 c = search needs
 
 returns-2 : tie.Need-returns-2
 unfolding ofAnswer answeredOf
-returns-2 c = (weigh-invalid _ _ _ _ _ _ (c .before .before .before .before .before .before .before .before .before .remember .ensures) _ (c .before .before .before .before .before .before .before .before .before .before .before .enum-told2 .given .1) _ _ _ (c .before .before .before .before .take-out .ensures), (refl, λ ys a. spares-invalid _ _ refl))
+returns-2 c = (weigh-invalid _ _ _ _ _ (c .before .before .before .before .before .before .before .before .before .remember .ensures .0 .1) _ (c .before .before .before .before .before .before .before .before .before .before .before .enum-told2 .given .1) _ (c .before .before .before .before .before .before .before .before .before .remember .ensures .1) _ _ _ (c .before .before .before .before .take-out .ensures), (refl, λ ys a. spares-invalid _ _ refl))
 
 same-length-4 : tie.Need-same-length-4
 same-length-4 c = search needs

@@ -1,6 +1,6 @@
 -- `expiring_cache::contains` meets its contract: whether an id is held goes by the time that is found (`since-held`). Assumes nothing.
+use Rattle.expiring_cache.specs.Seeking.{since-held}
 use borrow.Author.Needs.{needs}
-use Rattle.expiring_cache.specs.Steps.{since-held}
 use Rattle.expiring_cache.proofs.contains.Statement.{statement}
 use Rattle.expiring_cache.proofs.contains.Tie as tie
 
@@ -17,10 +17,12 @@ enum-told : tie.Need-enum-told
 enum-told c = search needs
 
 returns : tie.Need-returns
-returns c = rw (since-held, ← c .before .before .before .before .get .ensures, c .before .before .since .given .1) (c .is-fresh .ensures)
+returns c = λ k. rw (since-held, ← c .before .before .before .before .get .ensures k, c .before .before .since .given .1) (c .is-fresh .ensures)
 
 returns-2 : tie.Need-returns-2
-returns-2 c = rw (since-held, ← c .before .before .get .ensures, c .enum-told .given .1)
+returns-2 c = λ k. rw (since-held, ← c .before .before .get .ensures k, c .enum-told .given .1)
 
 pub contains-spec : {M : Type 1} → statement M
-contains-spec = tie.close (tie.spec get-requires enum-known-since is-fresh-requires enum-told returns returns-2)
+contains-spec =
+    tie.close
+    (tie.spec get-requires enum-known-since is-fresh-requires enum-told returns returns-2)

@@ -1,7 +1,6 @@
 -- `family::visit` meets its contract, from what its calls leave (`visited`). Assumes nothing.
 use borrow.Author.Needs.{needs}
 use native.Mathlib.Omega.{arith}
-use Rattle.boxes.specs.Layout.{rows}
 use Rattle.family.specs.Frames.{ok-fewer, ok-still}
 use Rattle.family.specs.Steps.{visited}
 use Rattle.family.proofs.visit.Statement.{statement}
@@ -26,9 +25,7 @@ same-length-2 : tie.Need-same-length-2
 same-length-2 c = search needs
 
 returns : tie.Need-returns
-returns c =
-    let a = c .before .before .before .before .before .before .before .before .before .before .before .before .before .before .before .args in
-    visited _ _ _ _ _ _ _ _ _ _ _ _ (c .before .before .before .before .before .before .before .before .before .before .before .before .before .before .before .pre .1 .0) (c .before .before .before .before .before .before .before .before .before .before .credit-entry .ensures) (c .before .before .before .before .before .before .store-frame .ensures) (omega (arith, rows .len (a .boxes .now) (a .counts .records))) (c .before .before .store-frame2 .ensures)
+returns c k = visited _ _ _ _ _ _ _ _ _ _ _ _ (c .before .before .before .before .before .before .before .before .before .before .before .before .before .before .before .pre .1 .0) (c .before .before .before .before .before .before .before .before .before .before .credit-entry .ensures k) (c .before .before .before .before .before .before .store-frame .ensures) (omega arith) (c .before .before .store-frame2 .ensures)
 
 pub visit-spec : {M : Type 1} → statement M
 visit-spec =

@@ -1,8 +1,8 @@
 -- `family_pools::enter` is safe: it tests what `insert` requires. Assumes nothing.
 use borrow.Author.Needs.{needs}
 use mathlib.Core.Path.{sym, _∙_}
-use borrow.Author.Tests.{not-false, not-true}
-use Rattle.pool.specs.Laws.{fits-true, room-left}
+use borrow.Author.Tests.{not-false}
+use Rattle.pool.specs.Laws.{fits-true}
 use Rattle.family_pools.proofs.enter.Statement.{statement}
 use Rattle.family_pools.proofs.enter.Tie as tie
 
@@ -44,8 +44,7 @@ entry-of-requires c κs = search needs
 
 insert-requires : tie.Need-insert-requires
 insert-requires c κs =
-    let f = fits-true _ _ _ (sym (c .before .before .before .before .before .before .before .before .before .before .fits2 .ensures) ∙ not-false _ (c .before .before .before .before .before .before .before .before .before .if1 .left)) in
-    let r = room-left _ _ _ _ f (not-true _ (sym (c .before .before .before .before .room-for .ensures) ∙ not-false _ (c .before .before .before .if2 .left))) in
+    let r = c .before .before .before .before .room-for .ensures .0 (not-false _ (c .before .before .before .if2 .left)) in
     (rw (c .before .before .before .before .before .before .before .before .count-of .ensures, c .before .before .before .before .before .before .before .count-of2 .ensures) at r, search needs)
 
 same-length-5 : tie.Need-same-length-5

@@ -1,55 +1,46 @@
 -- `pool::insert` meets its contract, from what its calls leave (`inserted`). Assumes nothing.
-use Rattle.pool.specs.Steps.{inserted}
-use Rattle.boxes.specs.Layout.{room-ok, ok-bound, boxesRoom}
-use Rattle.entries.specs.Layout.{ok-bound as entries-bound}
-use Rattle.entries.specs.Layout.{entryOf}
 use native.Mathlib.Omega.{arith}
+use mathlib.Core.Path.{refl}
+use Rattle.entries.specs.Layout.{entryOf}
+use Rattle.entries.specs.Layout.{ok-bound as entries-bound, ok-still as entries-still}
+use Rattle.pool.specs.Steps.{inserted}
 use borrow.Author.Needs.{needs}
 use Rattle.pool.proofs.insert.Statement.{statement}
 use Rattle.pool.proofs.insert.Tie as tie
+use Rattle.pool.proofs.insert.Reads as reads
+use Rattle.pool.proofs.insert.Lts as lts
+use Rattle.boxes.proofs.records.enter_tx.Reads as enter-tx-reads
+use Rattle.entries.proofs.table.insert_entry.Reads as insert-entry-reads
 
-count-of-requires : tie.Need-count-of-requires
-count-of-requires c κs = search needs
-
-count-of-requires-2 : tie.Need-count-of-requires-2
-count-of-requires-2 c κs = search needs
-
-add-needed : tie.Need-add-needed
-add-needed c = omega (arith, c .before .before .before .before .before .before .before .pre .0 .free, ok-bound _ _ (room-ok (c .before .before .before .before .before .before .before .args .boxes .now) (boxesRoom (c .before .before .before .before .before .before .before .args .boxes .now)) (omega arith)), c .before .count-of .ensures, c .count-of2 .ensures)
-
-make-room-requires : tie.Need-make-room-requires
-make-room-requires c κs = search needs
-
+-- src/lib.rt:71:9
 enter-tx-requires : tie.Need-enter-tx-requires
-enter-tx-requires c κs = (rw (c .before .before .before .before .before .before .count-of .ensures, c .before .before .before .before .before .count-of2 .ensures) at (c .before .before .before .make-room .ensures .room), c .before .before .before .before .before .before .before .before .before .before .before .before .pre .1)
+enter-tx-requires c κs = (c .before .before .before .before .before .before .pre .0 .boxes, c .before .before .before .before .before .before .pre .1)
 
+-- src/lib.rt:80:5
 insert-entry-requires : tie.Need-insert-entry-requires
-insert-entry-requires c κs = search needs
+insert-entry-requires c κs = c .before .before .before .before .before .before .before .before .before .before .pre .0 .entries
 
-add-t13 : tie.Need-add-t13
-add-t13 c = omega (arith, entries-bound _ _ (c .before .before .before .before .before .before .before .before .before .before .before .before .before .before .before .before .before .before .before .before .pre .0 .entries))
+-- src/lib.rt:82:17
+add-t16 : tie.Need-add-t16
+add-t16 c = omega (arith, entries-bound _ _ (c .before .before .before .before .before .before .before .before .before .before .before .before .before .before .pre .0 .entries))
 
+-- src/lib.rt:54:1
 same-length : tie.Need-same-length
 same-length c = search needs
 
+-- src/lib.rt:54:1
 same-length-2 : tie.Need-same-length-2
 same-length-2 c = search needs
 
+-- src/lib.rt:54:1
 returns : tie.Need-returns
 unfolding entryOf
-returns c = inserted _ _ _ _ _ _ _ _ _ _ _ _ (rw (c .before .before .before .before .before .before .before .before .before .before .before .before .before .before .count-of .ensures, c .before .before .before .before .before .before .before .before .before .before .before .before .before .count-of2 .ensures) at (c .before .before .before .before .before .before .before .before .before .before .before .make-room .ensures)) (c .before .before .before .insert-entry .ensures) (c .before .before .before .before .before .before .before .enter-tx .ensures)
+returns c = (
+  record { entries = entries-still _ _ _ _ (c .before .before .before .before .before .before .before .before .before .before .before .before .before .before .pre .0 .entries) (omega arith) (omega arith); boxes = c .before .before .before .before .before .before .before .enter-tx .ensures .0 },
+  λ k new. inserted _ _ _ _ _ _ _ _ _ (c .before .before .before .before .before .before .before .enter-tx .ensures .0) (c .before .before .before .insert-entry .ensures (k .entries) new) (c .before .before .before .before .before .before .before .enter-tx .ensures .1 (k .boxes) (c .before .before .before .before .before .before .before .before .before .before .before .before .before .before .pre .0 .free)),
+)
 
 pub insert-spec : {M : Type 1} → statement M
 insert-spec =
     tie.close
-    (tie.spec
-    count-of-requires
-    count-of-requires-2
-    add-needed
-    make-room-requires
-    enter-tx-requires
-    insert-entry-requires
-    add-t13
-    same-length
-    same-length-2
-    returns)
+    (tie.spec enter-tx-requires insert-entry-requires add-t16 same-length same-length-2 returns)

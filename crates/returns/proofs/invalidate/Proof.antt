@@ -32,7 +32,7 @@ returns : tie.Need-returns
 unfolding invalidatedOf
 returns c =
     rw (c .not-invalidated .ensures) (
-      λ ys f. not-met (c .before .before .before .fits-cache .ensures) (c .before .before .if1 .taken) (cache-holds _ _ _ _ ys f),
+      λ ys f. not-met (c .before .before .before .fits-cache .ensures) (c .before .before .if1 .taken) (cache-holds _ _ _ _ ys (f .fits)),
       (
         invalidation-unfit (c .before .before .before .before .before .before .before .before .before .before .args .mempool .pass .open) (c .before .unfit .ensures),
         (λ ys a. spares-same _ _, λ _. ap (λ n. refused n 0) (c .before .unfit .ensures)),
@@ -68,7 +68,7 @@ take-out-requires c κs = cache-fits _ _ _ _ (met (c .before .before .before .be
 remember-requires : tie.Need-remember-requires
 remember-requires c κs =
     let f = cache-fits _ _ _ _ (met (c .before .before .before .before .before .before .before .before .before .before .fits-cache .ensures) (c .before .before .before .before .before .before .before .before .before .if1 .left)) in
-    remember-asks _ _ _ _ (c .before .before .before .before .before .before .before .before .before .before .before .before .before .before .before .before .before .args .time) _ _ _ _ (c .before .before .before .before .before .take-out .ensures) (f .0 .cache) (f .1)
+    remember-asks _ (c .before .before .before .before .before .before .before .before .before .before .before .before .before .before .before .before .before .args .mempool) _ (c .before .before .before .before .before .take-out .ensures .0) (f .0 .cache) (f .1)
 
 same-length-7 : tie.Need-same-length-7
 same-length-7 c = c .before .before .before .before .before .before .before .before .take-out .kept .0
@@ -82,7 +82,7 @@ same-length-9 c = c .before .before .remember .kept .0
 returns-3 : tie.Need-returns-3
 unfolding ofInvalidation invalidatedOf
 returns-3 c = (
-  invalidate-done _ _ _ _ _ _ _ _ _ (c .before .before .before .before .before .before .before .before .take-out .ensures) (c .before .before .before .before .before .before .before .before .before .before .before .if2 .left) _ _ (c .before .before .remember .ensures),
+  invalidate-done _ _ _ _ _ _ _ (c .before .before .before .before .before .before .before .before .take-out .ensures .0) _ _ (c .before .before .before .before .before .before .before .before .take-out .ensures .1) (c .before .before .before .before .before .before .before .before .before .before .before .if2 .left) _ _ (c .before .before .remember .ensures .1),
   (
     refl,
     (

@@ -1,5 +1,6 @@
 -- `returns::lacks_room` meets its contract: what is not room is a lack of it, for as many records as both lists have. Assumes nothing.
 use borrow.Author.Needs.{needs}
+use Rattle.store.specs.Fits.{un-not}
 use Rattle.returns.specs.Laws.{not-not}
 use Rattle.returns.proofs.lacks_room.Statement.{statement}
 use Rattle.returns.proofs.lacks_room.Tie as tie
@@ -17,7 +18,10 @@ room-for-requires : tie.Need-room-for-requires
 room-for-requires c κs = search needs
 
 returns : tie.Need-returns
-returns c = rw (c .room-for .ensures, not-not, c .before .before .count-records .ensures, c .before .count-records2 .ensures)
+returns c = (
+  λ h. rw (← c .before .before .count-records .ensures, ← c .before .count-records2 .ensures) (c .room-for .ensures .0 (un-not _ h)),
+  λ k. rw (c .room-for .ensures .1 k, not-not, c .before .before .count-records .ensures, c .before .count-records2 .ensures),
+)
 
 pub lacks-room-spec : {M : Type 1} → statement M
 lacks-room-spec =

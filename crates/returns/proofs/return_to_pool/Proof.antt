@@ -7,7 +7,7 @@ use Rattle.pool.specs.Laws.{fits-true, fits-holds}
 use Rattle.returns.specs.Numbers.{ofReturn, return-numbered, return-unfit}
 use Rattle.store.specs.Fits.{met, was-met, not-met}
 use Rattle.store.specs.Spares.{spares-same, spares-done}
-use Rattle.returns.specs.Laws.{return-stopped, return-room, return-entered}
+use Rattle.returns.specs.Laws.{return-stopped, return-entered}
 use Rattle.returns.proofs.return_to_pool.Statement.{statement}
 use Rattle.returns.proofs.return_to_pool.Tie as tie
 
@@ -30,7 +30,7 @@ returns : tie.Need-returns
 unfolding returnedOf
 returns c =
     rw (c .not-returned .ensures) (
-      λ k ys f. not-met (c .before .before .before .fits2 .ensures) (c .before .before .if1 .taken) (fits-holds _ _ _ (f .tests .pool)),
+      λ k ys f. not-met (c .before .before .before .fits2 .ensures) (c .before .before .if1 .taken) (fits-holds _ _ _ (f .fits .tests .pool)),
       (
         return-unfit (c .before .before .before .before .before .before .before .before .before .before .before .args .mempool .pass .open) (c .before .unfit .ensures),
         (λ k ys a. spares-same _ _, λ _. ap (λ n. refused n 0) (c .before .unfit .ensures)),
@@ -52,9 +52,9 @@ same-length-4 c = refl
 returns-2 : tie.Need-returns-2
 returns-2 c =
     rw (c .not-returned2 .ensures) (
-      return-stopped _ _ _ _ _ _ (c .before .before .check-return .ensures) (c .before .if2 .taken),
+      return-stopped _ _ _ _ _ _ (c .before .before .check-return .ensures .1 .1) (c .before .if2 .taken),
       (
-        return-numbered _ _ _ _ _ _ _ (c .before .before .check-return .ensures) (c .before .if2 .taken),
+        return-numbered (c .before .before .check-return .ensures .0) (c .before .if2 .taken),
         (λ k ys a. spares-same _ _, was-met (c .before .before .before .before .before .before .fits2 .ensures) (c .before .before .before .before .before .if1 .left)),
       ),
     )
@@ -63,7 +63,7 @@ returned-entry-requires : tie.Need-returned-entry-requires
 returned-entry-requires c κs = search needs
 
 enter-requires : tie.Need-enter-requires
-enter-requires c κs = return-room _ _ _ _ _ _ (c .before .before .before .before .before .check-return .ensures) (fits-true _ _ _ (met (c .before .before .before .before .before .before .before .before .before .fits2 .ensures) (c .before .before .before .before .before .before .before .before .if1 .left))) (c .before .before .before .before .if2 .left)
+enter-requires c κs = c .before .before .before .before .before .check-return .ensures .1 .0 (c .before .before .before .before .if2 .left)
 
 same-length-5 : tie.Need-same-length-5
 same-length-5 c = c .before .before .before .before .enter .kept .0
@@ -74,7 +74,7 @@ same-length-6 c = c .before .before .before .before .enter .kept .1 .0
 returns-3 : tie.Need-returns-3
 unfolding ofReturn returnedOf
 returns-3 c = (
-  return-entered _ _ _ _ _ _ (c .before .before .before .before .before .before .before .before .before .before .check-return .ensures) (c .before .before .before .before .before .before .before .before .before .if2 .left) _ _ _ _ (c .before .before .before .before .before .before .before .returned-entry .ensures) (c .before .before .before .before .enter .ensures),
+  return-entered _ _ _ _ _ _ (c .before .before .before .before .before .before .before .before .before .before .check-return .ensures .1 .1) (c .before .before .before .before .before .before .before .before .before .if2 .left) _ _ _ _ (c .before .before .before .before .before .before .before .returned-entry .ensures) (c .before .before .before .before .enter .ensures),
   (
     refl,
     (

@@ -1,9 +1,7 @@
--- `admission::admit` meets its contract: the fee is in bounds (`fee-same`), the rest is `offer`, and its outcome counts no more than the buffer holds
--- (`told`). Assumes nothing.
+-- `admission::admit` meets its contract: the fee is in bounds (`fee-same`), and the rest is `offer`. Assumes nothing.
 use borrow.Author.Needs.{needs}
 use mathlib.Core.Path.{sym, _∙_}
 use Rattle.admit.specs.Admission.{fee-same, fee-beyond}
-use Rattle.admit.specs.Placed.{told}
 use Rattle.admit.proofs.admission.admit.Statement.{statement}
 use Rattle.admit.proofs.admission.admit.Tie as tie
 
@@ -29,9 +27,7 @@ same-length-3 : tie.Need-same-length-3
 same-length-3 c = search needs
 
 returns : tie.Need-returns
-returns c =
-    let o = c .before .before .before .before .before .before .offer .ensures in
-    (o .0, (o .1, rw (o .0 .outcome) (told _ _ _ _ _ _ _ _)))
+returns c = c .before .before .before .before .before .before .offer .ensures
 
 returns-2 : tie.Need-returns-2
 returns-2 c = fee-beyond _ (c .before .before .before .before .before .before .before .before .pre .1 .1) (sym (c .before .before .extract-fee .ensures) ∙ c .enum-told .given .1)

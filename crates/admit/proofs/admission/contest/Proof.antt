@@ -6,7 +6,8 @@ use mathlib.Core.Path.{refl, sym, ap, _∙_}
 use lib.ListN.{length}
 use Rattle.entries.specs.Layout.{entryOf}
 use Rattle.boxes.specs.Flat.{idsTo}
-use Rattle.admit.specs.Admission.{room-fits, room-after, contest-lost, contest-won}
+use Rattle.pool.specs.Pool.{tablesOf}
+use Rattle.admit.specs.Admission.{room-fits, room-after, still-new, sound-lost, contest-lost, contest-won}
 use Rattle.admit.specs.Spares.{spares-lost, spares-won}
 use Rattle.admit.proofs.admission.contest.Statement.{statement}
 use Rattle.admit.proofs.admission.contest.Tie as tie
@@ -47,8 +48,16 @@ same-length-3 c = search needs
 returns : tie.Need-returns
 unfolding entryOf
 returns c =
-    let l = c .before .before .before .before .before .before .before .before .before .before .before .before .before .conflicts .ensures in
-    (rw (← l .rows) (contest-lost _ _ _ _ _ _ _ _ _ _ _ _ _ _ _ (record { fits = room-fits _ _ _ _ (c .before .before .before .before .before .before .before .before .before .before .before .before .before .before .before .before .before .before .before .before .before .pre .0); tables = refl }) (sym (c .before .before .before .before .before .before .before .before .before .is-loser .ensures) ∙ c .before .before .before .before .before .before .before .before .if1 .taken) (l .count ∙ sym (ap length (l .rows))) (rw (c .before .before .before .before .before .before .places .ensures) at (c .before .before .before .before .before .smaller .ensures)) (c .before .before .write-ids .ensures)), spares-lost _ _ _ _ _ _ _)
+    let f = room-fits _ _ _ _ (c .before .before .before .before .before .before .before .before .before .before .before .before .before .before .before .before .before .before .before .before .before .pre .0) in
+    let told = rw (c .before .before .before .before .before .before .places .ensures) at (c .before .before .before .before .before .smaller .ensures) in (
+      sound-lost _ _ _ _ f _ _ told,
+      (
+        spares-lost _ _ _ _ _ _,
+        λ k new.
+            let l = c .before .before .before .before .before .before .before .before .before .before .before .before .before .conflicts .ensures .1 (k .boxes) in
+            rw (← l .rows) (contest-lost _ _ _ _ _ _ _ _ _ _ _ _ _ _ _ (record { fits = f; kept = k; tables = refl }) (sym (c .before .before .before .before .before .before .before .before .before .is-loser .ensures (k .entries)) ∙ c .before .before .before .before .before .before .before .before .if1 .taken) (l .count ∙ sym (ap length (l .rows))) told (c .before .before .write-ids .ensures)),
+      ),
+    )
 
 slice-aggregate-remove-all : tie.Need-slice-aggregate-remove-all
 slice-aggregate-remove-all c = search needs
@@ -60,7 +69,7 @@ slice-aggregate-seat : tie.Need-slice-aggregate-seat
 slice-aggregate-seat c = search needs
 
 seat-requires : tie.Need-seat-requires
-seat-requires c κs = (room-after _ _ _ _ _ _ _ (idsTo 4 _ _) (c .before .before .before .before .before .before .before .before .before .before .before .before .before .before .before .before .before .before .before .before .before .before .before .before .before .pre .0) (omega arith) (omega arith) (c .before .before .before .before .before .before .before .before .remove-all .ensures .0), (omega arith, omega arith))
+seat-requires c κs = (room-after _ _ _ _ _ _ _ (c .before .before .before .before .before .before .before .before .before .before .before .before .before .before .before .before .before .before .before .before .before .before .before .before .before .pre .0) (omega arith) (omega arith) (c .before .before .before .before .before .before .before .before .remove-all .ensures .0), (omega arith, omega arith))
 
 same-length-4 : tie.Need-same-length-4
 same-length-4 c = search needs
@@ -74,9 +83,17 @@ same-length-6 c = search needs
 returns-2 : tie.Need-returns-2
 unfolding entryOf
 returns-2 c =
-    let l = c .before .before .before .before .before .before .before .before .before .before .before .before .before .before .before .before .before .before .before .before .before .before .before .before .conflicts .ensures in
-    let went = c .before .before .before .before .before .before .before .before .before .before .before .before .before .before .before .remove-all .ensures in
-    (rw (← l .rows) (contest-won _ _ _ _ _ _ _ _ _ _ _ _ _ _ (sym (c .before .before .before .before .before .before .before .before .before .before .before .before .before .before .before .before .before .before .before .before .is-loser .ensures) ∙ c .before .before .before .before .before .before .before .before .before .before .before .before .before .before .before .before .before .before .before .if1 .left) (went .0 .tables) (c .before .before .before .before .before .before .seat .ensures .0)), spares-won _ _ _ _ _ _ _ _ _ _ _ _ (λ h. went .1 (l .count ∙ ap length h)) (c .before .before .before .before .before .before .seat .ensures .1))
+    let a = c .before .before .before .before .before .before .before .before .before .before .before .before .before .before .before .before .before .before .before .before .before .before .before .before .before .before .before .before .before .before .before .before .args in
+    let s = c .before .before .before .before .before .before .seat .ensures in (
+      s .0,
+      (
+        spares-won _ _ _ _ _ _ _ _ _ _ _ (s .1 .0),
+        λ k new.
+            let l = c .before .before .before .before .before .before .before .before .before .before .before .before .before .before .before .before .before .before .before .before .before .before .before .before .conflicts .ensures .1 (k .boxes) in
+            let went = c .before .before .before .before .before .before .before .before .before .before .before .before .before .before .before .remove-all .ensures .1 .0 k in
+            rw (← l .rows) (contest-won _ _ _ _ _ _ _ _ _ _ _ _ _ _ (sym (c .before .before .before .before .before .before .before .before .before .before .before .before .before .before .before .before .before .before .before .before .is-loser .ensures (k .entries)) ∙ c .before .before .before .before .before .before .before .before .before .before .before .before .before .before .before .before .before .before .before .if1 .left) (went .tables) (s .1 .1 (went .kept) (still-new _ _ _ _ (idsTo 4 _ _) (tablesOf (a .entries .now) (a .boxes .now) (a .counts)) went new))),
+      ),
+    )
 
 pub contest-spec : {M : Type 1} → statement M
 contest-spec =

@@ -2,8 +2,7 @@
 use borrow.Author.Needs.{needs}
 use native.Mathlib.Omega.{arith}
 use Rattle.entries.specs.Layout.{entryOf}
-use Rattle.boxes.specs.Clear.{anywhere}
-use Rattle.admit.specs.Admission.{enters}
+use Rattle.admit.specs.Admission.{fits-still, enters}
 use Rattle.admit.proofs.admission.enter.Statement.{statement}
 use Rattle.admit.proofs.admission.enter.Tie as tie
 
@@ -11,10 +10,10 @@ insert-requires : tie.Need-insert-requires
 insert-requires c κs = (c .before .before .before .before .before .before .before .before .pre .0, (omega arith, omega arith))
 
 propagate-family-weight-requires : tie.Need-propagate-family-weight-requires
-propagate-family-weight-requires c κs = c .before .before .before .before .before .before .insert .ensures .fits
+propagate-family-weight-requires c κs = c .before .before .before .before .before .before .insert .ensures .0
 
 evict-to-requires : tie.Need-evict-to-requires
-evict-to-requires c κs = (c .before .before .before .before .before .propagate-family-weight .ensures .fits, (c .before .before .before .before .before .before .before .before .before .before .before .before .before .before .before .before .before .before .before .before .before .pre .1, anywhere _ _ _))
+evict-to-requires c κs = (fits-still _ _ _ _ (c .before .before .before .before .before .before .before .before .before .before .before .before .insert .ensures .0) (omega arith), c .before .before .before .before .before .before .before .before .before .before .before .before .before .before .before .before .before .before .before .before .before .pre .1)
 
 same-length : tie.Need-same-length
 same-length c = search needs
@@ -27,7 +26,14 @@ same-length-3 c = search needs
 
 returns : tie.Need-returns
 unfolding entryOf
-returns c = enters _ _ _ _ _ _ _ _ _ _ _ _ _ _ _ (c .before .before .before .before .before .before .before .before .before .before .before .before .before .before .before .before .before .before .before .insert .ensures .tables) (c .before .before .before .before .before .before .before .before .before .before .before .before .propagate-family-weight .ensures .tables) (c .before .before .before .before .before .before .evict-to .ensures)
+returns c =
+    let v = c .before .before .before .before .before .before .evict-to .ensures in (
+      v .0,
+      λ k new.
+          let t = c .before .before .before .before .before .before .before .before .before .before .before .before .before .before .before .before .before .before .before .insert .ensures .1 k new in
+          let u = c .before .before .before .before .before .before .before .before .before .before .before .before .propagate-family-weight .ensures (t .kept) in
+          enters _ _ _ _ _ _ _ _ _ _ _ _ _ _ _ (t .tables) (u .tables) (v .1 (u .kept)),
+    )
 
 pub enter-spec : {M : Type 1} → statement M
 enter-spec =

@@ -5,7 +5,7 @@ use native.Mathlib.Omega.{arith}
 use mathlib.Core.Path.{refl, sym, _∙_}
 use Rattle.entries.specs.Layout.{entryOf}
 use Rattle.boxes.specs.Flat.{ids}
-use Rattle.admit.specs.Admission.{room-fits, seat-crowded, seat-taken, settles}
+use Rattle.admit.specs.Admission.{room-fits, sound-declined, sound-in, seat-crowded, seat-taken, settles}
 use Rattle.admit.specs.Spares.{unmoved-full, unmoved-in}
 use Rattle.admit.proofs.admission.seat.Statement.{statement}
 use Rattle.admit.proofs.admission.seat.Tie as tie
@@ -18,7 +18,14 @@ same-length c = search needs
 
 returns : tie.Need-returns
 unfolding entryOf
-returns c = (seat-crowded _ _ _ _ _ _ _ _ _ _ _ _ (record { fits = room-fits _ _ _ _ (c .before .before .before .before .before .before .before .before .before .pre .0); tables = refl }) (sym (c .before .is-crowded .ensures) ∙ c .if1 .taken), unmoved-full _ _ _ _)
+returns c =
+    let f = room-fits _ _ _ _ (c .before .before .before .before .before .before .before .before .before .pre .0) in (
+      sound-declined _ _ _ _ f 30 refl,
+      (
+        unmoved-full _ _ _ _,
+        λ k new. seat-crowded _ _ _ _ _ _ _ _ _ _ _ _ (record { fits = f; kept = k; tables = refl }) (sym (c .before .is-crowded .ensures) ∙ c .if1 .taken),
+      ),
+    )
 
 places-requires : tie.Need-places-requires
 places-requires c κs = search needs
@@ -30,7 +37,7 @@ enter-requires : tie.Need-enter-requires
 enter-requires c κs = (c .before .before .before .before .before .before .before .before .before .before .before .before .before .before .before .before .before .before .pre .0, c .before .before .before .before .before .before .before .before .before .before .before .before .before .before .before .before .before .before .pre .1 .1)
 
 add-outcome-of : tie.Need-add-outcome-of
-add-outcome-of c = omega (arith, c .before .before .before .before .before .before .before .before .enter .ensures .room)
+add-outcome-of c = omega (arith, c .before .before .before .before .before .before .before .before .enter .ensures .0 .1)
 
 outcome-of-requires : tie.Need-outcome-of-requires
 outcome-of-requires c κs = search needs
@@ -48,7 +55,15 @@ returns-2 : tie.Need-returns-2
 unfolding entryOf
 returns-2 c =
     let told = rw (c .before .before .before .before .before .before .before .before .before .before .before .before .before .before .before .before .before .places .ensures) at (c .outcome-of .ensures) in
-    (seat-taken _ _ _ _ _ _ _ _ _ _ _ _ _ (sym (c .before .before .before .before .before .before .before .before .before .before .before .before .before .before .before .before .before .before .before .before .is-crowded .ensures) ∙ c .before .before .before .before .before .before .before .before .before .before .before .before .before .before .before .before .before .before .before .if1 .left) (settles _ _ _ _ _ _ _ _ _ _ _ _ (sym (ids 4 .len _ _)) (c .before .before .before .before .before .before .before .before .before .before .before .before .before .before .before .write-ids .ensures) (c .before .before .before .before .before .before .before .before .before .enter .ensures) told), unmoved-in _ _ _ _ _ _ _ _ _ (c .before .before .before .before .before .before .before .before .before .before .before .before .before .before .before .before .before .before .before .before .before .before .before .before .before .before .before .before .args .k) _ (c .outcome-of .ensures))
+    let v = c .before .before .before .before .before .before .before .before .before .enter .ensures in
+    let n = c .before .before .before .before .before .before .before .before .before .before .before .before .before .before .before .before .before .before .before .before .before .before .before .before .before .before .before .before .args .k in (
+      sound-in _ _ _ _ (v .0 .0) _ n _ told,
+      (
+        unmoved-in _ _ _ _ _ _ _ _ _ n _ (c .outcome-of .ensures),
+        λ k new. seat-taken _ _ _ _ _ _ _ _ _ _ _ _ _ (sym (c .before .before .before .before .before .before .before .before .before .before .before .before .before .before .before .before .before .before .before .before .is-crowded .ensures) ∙ c .before .before .before .before .before .before .before .before .before .before .before .before .before .before .before .before .before .before .before .if1 .left)
+            (settles _ _ _ _ _ _ _ _ _ _ _ _ (sym (ids 4 .len _ _)) (c .before .before .before .before .before .before .before .before .before .before .before .before .before .before .before .write-ids .ensures) (v .1 k new) told),
+      ),
+    )
 
 pub seat-spec : {M : Type 1} → statement M
 seat-spec =

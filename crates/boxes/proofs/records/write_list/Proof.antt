@@ -1,19 +1,16 @@
--- `records::write_list` meets its contract. The loop's invariant: the records written and those of the boxes left are together the same as at
--- the start (`whole`). Assumes nothing.
+-- `records::write_list` meets its contract. The loop's invariant: i boxes are written, and the other words are as they were (`Wrote`). Assumes nothing.
 use native.Mathlib.Omega.{arith}
 use Prim.Native.Nat.{_-_, _≤_}
 use mathlib.Core.Path.{_≡_, refl}
 use lib.ListN.{length}
-use mathlib.Core.List.{_++_}
 use Rattle.words.specs.Ids.{idOf}
-use Rattle.boxes.specs.Flat.{idsOf}
-use Rattle.boxes.specs.Layout.{slotsOf, ok-still, ok-bound}
-use Rattle.boxes.specs.Writing.{news, whole, write-none, write-more, write-all}
+use Rattle.boxes.specs.Flat.{countOf}
+use Rattle.boxes.specs.Writing.{Wrote, wrote-none, wrote-more}
 use Rattle.boxes.proofs.records.write_list.Statement.{statement}
 use Rattle.boxes.proofs.records.write_list.Tie as tie
 
 abbrev Inv-loop : tie.InvT-loop
-Inv-loop free₀ at owner out list width n i₀ free i = (i ≤ n) × (length free ≡ length free₀) × (whole out (idOf owner) width list free at i ≡ slotsOf free₀ at ++ news out (idOf owner) (idsOf width list))
+Inv-loop free₀ at owner out list width n i₀ free i = (i ≤ n) × (length free ≡ length free₀) × Wrote free₀ free at i (idOf owner) out width list
 
 abbrev μ-loop : tie.MeasureT-loop
 μ-loop free₀ at owner out list width n i₀ free i = n - i
@@ -22,31 +19,49 @@ count-of-requires : tie.Need-count-of-requires Inv-loop μ-loop
 count-of-requires c κs = c .before .before .pre .1
 
 loop-holds : tie.Need-loop-holds Inv-loop μ-loop
-loop-holds c = (omega arith, refl, write-none _ _ _ _ _ _)
+loop-holds c = (omega arith, refl, wrote-none _ _ _ _ _ _)
 
-add-write-record : tie.Need-add-write-record Inv-loop μ-loop
-add-write-record c = omega (arith, ok-bound _ _ (c .before .before .before .before .before .before .pre .0))
+id-at-requires : tie.Need-id-at-requires Inv-loop μ-loop
+id-at-requires c κs = (c .before .before .before .before .before .pre .1, omega arith)
 
-write-record-requires : tie.Need-write-record-requires Inv-loop μ-loop
-write-record-requires c κs = (ok-still _ _ _ _ (c .before .before .before .before .before .before .pre .0) (c .before .before .loop .inv .1) (omega arith), (c .before .before .before .before .before .before .pre .1, omega arith))
+add-put-words : tie.Need-add-put-words Inv-loop μ-loop
+add-put-words c = omega arith
+
+live-kind-requires : tie.Need-live-kind-requires Inv-loop μ-loop
+live-kind-requires c κs = tt
+
+put-words-requires : tie.Need-put-words-requires Inv-loop μ-loop
+put-words-requires c κs = omega arith
 
 add-i : tie.Need-add-i Inv-loop μ-loop
-add-i c = omega (arith, ok-bound _ _ (c .before .before .before .before .before .before .before .before .before .pre .0))
+add-i c = omega arith
 
 loop-less : tie.Need-loop-less Inv-loop μ-loop
 loop-less c = omega arith
 
 loop-again : tie.Need-loop-again Inv-loop μ-loop
-loop-again c = (omega arith, omega arith, write-more _ _ _ _ _ _ _ _ (omega arith) (c .before .before .write-record .ensures) (c .before .before .before .before .before .loop .inv .2))
-
-add-result : tie.Need-add-result Inv-loop μ-loop
-add-result c = omega (arith, ok-bound _ _ (c .before .before .before .before .before .pre .0))
+loop-again c = (omega arith, omega arith, wrote-more _ _ _ _ _ _ _ _ _ _ _ (c .before .before .before .before .before .before .before .loop .inv .2) (c .before .before .before .before .before .id-at .ensures) (c .before .before .before .live-kind .ensures) (c .before .before .put-words .ensures))
 
 same-length : tie.Need-same-length Inv-loop μ-loop
-same-length c = omega arith
+same-length c = c .before .loop .inv .1
 
 returns : tie.Need-returns Inv-loop μ-loop
-returns c = record { count = omega arith; rows = write-all _ _ _ _ _ _ _ _ (c .loop-test .left) (c .before .loop .inv .0) (c .before .before .count-of .ensures) (c .before .loop .inv .2) }
+returns c = let e : c .before .loop .i ≡ countOf (c .before .before .before .before .before .args .width) (c .before .before .before .before .before .args .list .now) = omega arith in rw e at (c .before .loop .inv .2)
 
 pub write-list-spec : {M : Type 1} → statement M
-write-list-spec = tie.close (tie.spec Inv-loop μ-loop count-of-requires loop-holds add-write-record write-record-requires add-i loop-less loop-again add-result same-length returns)
+write-list-spec =
+    tie.close
+    (tie.spec
+    Inv-loop
+    μ-loop
+    count-of-requires
+    loop-holds
+    id-at-requires
+    add-put-words
+    live-kind-requires
+    put-words-requires
+    add-i
+    loop-less
+    loop-again
+    same-length
+    returns)

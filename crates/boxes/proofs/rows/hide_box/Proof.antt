@@ -1,32 +1,57 @@
--- `rows::hide_box` meets its contract: one word is stored (`hide-put`). It knows the layout. Assumes nothing.
-use Rattle.boxes.specs.Layout.{BoxesOk, boxesRoom}
-use Rattle.boxes.specs.Stores.{hide-put}
-use native.Mathlib.Omega.{arith}
+-- `rows::hide_box` meets its contract. Assumes nothing.
 use borrow.Author.Needs.{needs}
 use Rattle.boxes.proofs.rows.hide_box.Statement.{statement}
 use Rattle.boxes.proofs.rows.hide_box.Tie as tie
 
 mul-s : tie.Need-mul-s
-unfolding BoxesOk boxesRoom
-mul-s c = omega arith
+mul-s c = search needs
 
 add-s : tie.Need-add-s
-unfolding BoxesOk boxesRoom
-add-s c = omega arith
+add-s c = search needs
 
 mul-s-2 : tie.Need-mul-s-2
-unfolding BoxesOk boxesRoom
-mul-s-2 c = omega arith
+mul-s-2 c = search needs
 
 slice-write-s : tie.Need-slice-write-s
-unfolding BoxesOk boxesRoom
-slice-write-s c = omega arith
+slice-write-s c = search needs
+
+mul-s-3 : tie.Need-mul-s-3
+mul-s-3 c = search needs
+
+add-s-2 : tie.Need-add-s-2
+add-s-2 c = search needs
+
+mul-s-4 : tie.Need-mul-s-4
+mul-s-4 c = search needs
+
+slice-write-s-2 : tie.Need-slice-write-s-2
+slice-write-s-2 c = search needs
 
 same-length : tie.Need-same-length
 same-length c = search needs
 
 returns : tie.Need-returns
-returns c = hide-put _ _ (c .pre)
+returns c = rw (c .if1 .taken)
+
+same-length-2 : tie.Need-same-length-2
+same-length-2 c = search needs
+
+returns-2 : tie.Need-returns-2
+returns-2 c = rw (c .if1 .left)
 
 pub hide-box-spec : {M : Type 1} → statement M
-hide-box-spec = tie.close (tie.spec mul-s add-s mul-s-2 slice-write-s same-length returns)
+hide-box-spec =
+    tie.close
+    (tie.spec
+    mul-s
+    add-s
+    mul-s-2
+    slice-write-s
+    mul-s-3
+    add-s-2
+    mul-s-4
+    slice-write-s-2
+    same-length
+    returns
+    same-length-2
+    returns-2)

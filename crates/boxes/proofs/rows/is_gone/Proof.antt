@@ -1,28 +1,17 @@
--- `rows::is_gone` meets its contract. It knows the layout: it unfolds `BoxesOk` and cites `gone-at`. Assumes nothing.
-use Rattle.boxes.specs.Layout.{BoxesOk, boxesRoom, gone-at}
-use native.Mathlib.Omega.{arith}
+-- `rows::is_gone` meets its contract, by the kind. Assumes nothing.
+use borrow.Author.Needs.{needs}
+use Prim.Native.Nat.{ℕ}
+use mathlib.Core.Path.{ap, _∙_}
+use lib.Dec.{eqb}
+use Rattle.boxes.specs.Layout.{gone-is}
 use Rattle.boxes.proofs.rows.is_gone.Statement.{statement}
 use Rattle.boxes.proofs.rows.is_gone.Tie as tie
 
-mul-result : tie.Need-mul-result
-unfolding BoxesOk boxesRoom
-mul-result c = omega arith
-
-add-result : tie.Need-add-result
-unfolding BoxesOk boxesRoom
-add-result c = omega arith
-
-mul-result-2 : tie.Need-mul-result-2
-unfolding BoxesOk boxesRoom
-mul-result-2 c = omega arith
-
-shared-slice-read-result : tie.Need-shared-slice-read-result
-unfolding BoxesOk boxesRoom
-shared-slice-read-result c = omega arith
+kind-at-requires : tie.Need-kind-at-requires
+kind-at-requires c κs = search needs
 
 returns : tie.Need-returns
-returns c = gone-at _ _ (c .before .pre)
+returns c = ap (λ (q : ℕ). eqb q 2) (c .kind-at .ensures) ∙ gone-is _ _
 
 pub is-gone-spec : {M : Type 1} → statement M
-is-gone-spec =
-    tie.close (tie.spec mul-result add-result mul-result-2 shared-slice-read-result returns)
+is-gone-spec = tie.close (tie.spec kind-at-requires returns)

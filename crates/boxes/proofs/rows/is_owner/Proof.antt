@@ -1,5 +1,6 @@
--- `rows::is_owner` meets its contract, from those of its two calls. Assumes nothing.
+-- `rows::is_owner` meets its contract. Assumes nothing.
 use borrow.Author.Needs.{needs}
+use Prim.Native.Nat.{ℕ}
 use mathlib.Core.Path.{ap, _∙_}
 use lib.Dec.{eqb}
 use Rattle.words.specs.Ids.{idOf}
@@ -13,7 +14,7 @@ same-id-requires : tie.Need-same-id-requires
 same-id-requires c κs = search needs
 
 returns : tie.Need-returns
-returns c = c .same-id .ensures ∙ ap (λ k. eqb k (idOf (c .before .before .before .args .owner))) (c .before .box-owner .ensures)
+returns c = c .same-id .ensures ∙ ap (λ (x : ℕ). eqb x (idOf (c .before .before .before .args .owner))) (c .before .box-owner .ensures)
 
 pub is-owner-spec : {M : Type 1} → statement M
 is-owner-spec = tie.close (tie.spec box-owner-requires same-id-requires returns)

@@ -23,10 +23,10 @@ same-length : tie.Need-same-length
 same-length c = search needs
 
 returns : tie.Need-returns
-returns c = one-sent _ _ _ _ (c .before .before .before .before .before .before .id-at .ensures) _ (sym (c .before .before .before .before .before .all-listed .ensures) ∙ c .before .before .before .before .if1 .taken) (c .before .before .write-id .ensures)
+returns c = (omega arith, λ k. one-sent _ _ _ _ (c .before .before .before .before .before .before .id-at .ensures) _ (sym (c .before .before .before .before .before .all-listed .ensures k) ∙ c .before .before .before .before .if1 .taken) (c .before .before .write-id .ensures))
 
 returns-2 : tie.Need-returns-2
-returns-2 c = one-left _ _ _ _ (c .before .before .id-at .ensures) _ _ (sym (c .before .all-listed .ensures) ∙ c .if1 .left)
+returns-2 c = (omega arith, λ k. one-left _ _ _ _ (c .before .before .id-at .ensures) _ _ (sym (c .before .all-listed .ensures k) ∙ c .if1 .left))
 
 pub select-one-spec : {M : Type 1} → statement M
 select-one-spec =

@@ -40,7 +40,7 @@ same-length-5 c = search needs
 -- src/block.rt:67:1
 returns : tie.Need-returns
 unfolding altered
-returns c p y = after-applied _ _ _ _ _ _ _ _ _ _ _ _ (c .before .before .before .before .before .before .before .before .before .before .before .before .before .before .before .apply-block-by-value .ensures .0 (records p) (y .fits)) (says-applied _ _ _ _ _ _ _) _ _ _ (c .before .before .told .ensures)
+returns c p y = after-applied _ _ _ _ _ _ _ _ _ _ _ _ (c .before .before .before .before .before .before .before .before .before .before .before .before .before .before .before .apply-block-by-value .ensures .0 (records p) (y .store)) (says-applied _ _ _ _ _ _ _) _ _ _ (c .before .before .told .ensures)
 
 pub on-block-spec : {M : Type 1} → statement M
 on-block-spec =

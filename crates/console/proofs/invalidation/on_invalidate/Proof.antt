@@ -36,7 +36,7 @@ same-length-4 c = search needs
 -- src/invalidation.rt:31:1
 returns : tie.Need-returns
 unfolding altered
-returns c p a f s y = after-done _ _ _ _ _ _ _ _ _ _ _ _ _ _ _ _ _ (c .before .before .before .before .before .before .before .before .before .before .before .invalidate .ensures .0 (records p) (y .fits)) (c .before .before .tell-invalidated .ensures)
+returns c p a f s y = after-done _ _ _ _ _ _ _ _ _ _ _ _ _ _ _ _ _ (c .before .before .before .before .before .before .before .before .before .before .before .invalidate .ensures .0 (records p) (y .store)) (c .before .before .tell-invalidated .ensures)
 
 pub on-invalidate-spec : {M : Type 1} → statement M
 on-invalidate-spec =

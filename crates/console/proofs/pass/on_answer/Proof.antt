@@ -41,7 +41,7 @@ same-length-4 c = search needs
 -- src/pass.rt:104:1
 returns : tie.Need-returns
 unfolding altered
-returns c n p a s y = rw (← c .before .before .before .before .before .before .before .before .before .before .before .before .verdict-of .ensures) (after-pass _ _ _ _ _ _ _ _ _ _ _ _ _ _ _ _ (c .before .before .before .before .before .before .before .before .before .before .before .answer .ensures .0 (records p) (y .fits)) (c .before .before .tell-answered .ensures))
+returns c n p a s y = rw (← c .before .before .before .before .before .before .before .before .before .before .before .before .verdict-of .ensures) (after-pass _ _ _ _ _ _ _ _ _ _ _ _ _ _ _ _ (c .before .before .before .before .before .before .before .before .before .before .before .answer .ensures .0 (records p) (y .store)) (c .before .before .tell-answered .ensures))
 
 pub on-answer-spec : {M : Type 1} → statement M
 on-answer-spec =

@@ -24,7 +24,7 @@ same-length c = search needs
 -- src/pass.rt:82:1
 returns : tie.Need-returns
 unfolding altered
-returns c b k p a f s y = after-pass _ _ _ _ _ _ _ _ _ _ _ _ _ _ _ _ (c .before .before .before .before .before .next .ensures .0 b k (records p) (y .fits)) (c .before .before .tell-offered .ensures)
+returns c b k p a f s y = after-pass _ _ _ _ _ _ _ _ _ _ _ _ _ _ _ _ (c .before .before .before .before .before .next .ensures .0 b k (records p) (y .store)) (c .before .before .tell-offered .ensures)
 
 pub on-next-spec : {M : Type 1} → statement M
 on-next-spec = tie.close (tie.spec next-requires tell-offered-requires same-length returns)

@@ -24,7 +24,7 @@ same-length c = search needs
 -- src/pass.rt:60:1
 returns : tie.Need-returns
 unfolding altered
-returns c e b k p a f s y = after-pass _ _ _ _ _ _ _ _ _ _ _ _ _ _ _ _ (c .before .before .before .before .before .«open» .ensures .0 e b k (records p) (y .fits)) (c .before .before .tell-opened .ensures)
+returns c e b k p a f s y = after-pass _ _ _ _ _ _ _ _ _ _ _ _ _ _ _ _ (c .before .before .before .before .before .«open» .ensures .0 e b k (records p) (y .store)) (c .before .before .tell-opened .ensures)
 
 pub on-open-spec : {M : Type 1} → statement M
 on-open-spec = tie.close (tie.spec open-requires tell-opened-requires same-length returns)

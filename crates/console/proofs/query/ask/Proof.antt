@@ -86,7 +86,7 @@ enum-known-query-7 : tie.Need-enum-known-query-7
 enum-known-query-7 c = search needs
 
 on-rebroadcast-requires : tie.Need-on-rebroadcast-requires
-on-rebroadcast-requires c κs = (c .before .before .before .before .before .before .before .before .before .before .before .before .before .before .before .pre .0 .fits .tests .pool, (omega (arith, c .before .before .before .before .before .before .before .before .before .before .before .before .before .before .before .pre .1), omega (arith, c .before .before .before .before .before .before .before .before .before .before .before .before .before .before .before .pre .1)))
+on-rebroadcast-requires c κs = ((c .before .before .before .before .before .before .before .before .before .before .before .before .before .before .before .pre .0 .store .fits .tests .pool, c .before .before .before .before .before .before .before .before .before .before .before .before .before .before .before .pre .0 .store .indexed .pool), (omega (arith, c .before .before .before .before .before .before .before .before .before .before .before .before .before .before .before .pre .1), omega (arith, c .before .before .before .before .before .before .before .before .before .before .before .before .before .before .before .pre .1)))
 
 -- src/query.rt:116:35
 enum-told-2 : tie.Need-enum-told-2
@@ -94,7 +94,7 @@ enum-told-2 c = search needs
 
 -- src/query.rt:116:27
 charges-requires : tie.Need-charges-requires
-charges-requires c κs = (peers-words (c .before .before .before .before .before .before .before .before .before .before .before .before .before .args .peers .now) _ (c .before .before .before .before .before .before .before .before .before .before .before .before .before .pre .0 .fits .records) (c .before .before .before .before .before .before .before .before .before .before .before .before .before .pre .0 .fits .used), omega (arith, c .before .before .before .before .before .before .before .before .before .before .before .before .before .pre .0 .fits .used, c .before .before .before .before .before .before .before .before .before .before .before .before .before .pre .1))
+charges-requires c κs = (peers-words (c .before .before .before .before .before .before .before .before .before .before .before .before .before .args .peers .now) _ (c .before .before .before .before .before .before .before .before .before .before .before .before .before .pre .0 .store .fits .records) (c .before .before .before .before .before .before .before .before .before .before .before .before .before .pre .0 .store .fits .used), omega (arith, c .before .before .before .before .before .before .before .before .before .before .before .before .before .pre .0 .store .fits .used, c .before .before .before .before .before .before .before .before .before .before .before .before .before .pre .1))
 
 -- src/query.rt:117:36
 enum-told-3 : tie.Need-enum-told-3

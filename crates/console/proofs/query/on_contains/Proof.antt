@@ -50,7 +50,7 @@ same-length c = search needs
 
 -- src/query.rt:34:1
 returns : tie.Need-returns
-returns c = prints-as (tested-yes (c .before .before .before .before .before .before .before .contains .ensures) (c .before .before .before .before .before .enum-told .given .1)) (c .before .before .text .ensures)
+returns c = prints-as (tested-yes (c .before .before .before .before .before .before .before .contains .ensures .1 (c .before .before .before .before .before .before .before .before .before .before .before .pre .0 .0) (c .before .before .before .before .before .before .before .before .before .before .before .pre .0 .1)) (c .before .before .before .before .before .enum-told .given .1)) (c .before .before .text .ensures)
 
 -- src/query.rt:34:1
 same-length-2 : tie.Need-same-length-2
@@ -58,7 +58,7 @@ same-length-2 c = search needs
 
 -- src/query.rt:34:1
 returns-2 : tie.Need-returns-2
-returns-2 c = prints-as (tested-no (c .before .before .before .before .before .before .before .contains .ensures) (c .before .before .before .before .before .enum-told2 .given .1)) (c .before .before .text2 .ensures)
+returns-2 c = prints-as (tested-no (c .before .before .before .before .before .before .before .contains .ensures .1 (c .before .before .before .before .before .before .before .before .before .before .before .pre .0 .0) (c .before .before .before .before .before .before .before .before .before .before .before .pre .0 .1)) (c .before .before .before .before .before .enum-told2 .given .1)) (c .before .before .text2 .ensures)
 
 -- src/query.rt:34:1
 same-length-3 : tie.Need-same-length-3
@@ -66,7 +66,7 @@ same-length-3 c = search needs
 
 -- src/query.rt:34:1
 returns-3 : tie.Need-returns-3
-returns-3 c = prints-as (tested-not (c .before .before .before .before .before .before .before .contains .ensures) (c .before .before .before .before .before .tested .given .1)) (c .before .before .refused .ensures)
+returns-3 c = prints-as (tested-not (c .before .before .before .before .before .before .before .contains .ensures .1 (c .before .before .before .before .before .before .before .before .before .before .before .pre .0 .0) (c .before .before .before .before .before .before .before .before .before .before .before .pre .0 .1)) (c .before .before .before .before .before .tested .given .1)) (c .before .before .refused .ensures)
 
 pub on-contains-spec : {M : Type 1} → statement M
 on-contains-spec =

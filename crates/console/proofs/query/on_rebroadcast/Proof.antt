@@ -30,7 +30,7 @@ slice-aggregate-with-ids : tie.Need-slice-aggregate-with-ids
 slice-aggregate-with-ids c = search needs
 
 with-ids-requires : tie.Need-with-ids-requires
-with-ids-requires c κs = let h = sent-placed _ _ _ (c .before .before .before .before .before .before .before .before .select-for-rebroadcast .ensures .0 [] [] (c .before .before .before .before .before .before .before .before .before .before .before .before .before .before .before .before .before .pre .0)) (c .before .before .before .before .sent .given .1) in (omega (arith, h, c .before .before .before .before .before .before .before .before .select-for-rebroadcast .kept), omega (arith, h, c .before .before .before .before .before .before .before .before .before .before .before .before .before .before .before .before .before .pre .1))
+with-ids-requires c κs = let h = sent-placed _ _ _ (c .before .before .before .before .before .before .before .before .select-for-rebroadcast .ensures .0 [] [] (c .before .before .before .before .before .before .before .before .before .before .before .before .before .before .before .before .before .pre .0 .0) (c .before .before .before .before .before .before .before .before .before .before .before .before .before .before .before .before .before .pre .0 .1 .boxes)) (c .before .before .before .before .sent .given .1) in (omega (arith, h, c .before .before .before .before .before .before .before .before .select-for-rebroadcast .kept), omega (arith, h, c .before .before .before .before .before .before .before .before .before .before .before .before .before .before .before .before .before .pre .1))
 
 enum-known-sent-2 : tie.Need-enum-known-sent-2
 enum-known-sent-2 c = search needs
@@ -45,7 +45,7 @@ same-length-2 : tie.Need-same-length-2
 same-length-2 c = search needs
 
 returns : tie.Need-returns
-returns c k p = prints-as (sent-ids _ _ _ (c .before .before .before .before .before .before .before .before .before .before .before .select-for-rebroadcast .ensures .0 k (records p) (c .before .before .before .before .before .before .before .before .before .before .before .before .before .before .before .before .before .before .before .before .pre .0)) (c .before .before .before .before .before .before .before .sent .given .1) ∙ sent-cut _ _ _ _ _ _ (c .before .before .before .before .before .before .before .before .before .before .before .before .before .before .smaller .ensures)) (c .before .before .with-ids .ensures)
+returns c k p = prints-as (sent-ids _ _ _ (c .before .before .before .before .before .before .before .before .before .before .before .select-for-rebroadcast .ensures .0 k (records p) (c .before .before .before .before .before .before .before .before .before .before .before .before .before .before .before .before .before .before .before .before .pre .0 .0) (c .before .before .before .before .before .before .before .before .before .before .before .before .before .before .before .before .before .before .before .before .pre .0 .1 .boxes)) (c .before .before .before .before .before .before .before .sent .given .1) ∙ sent-cut _ _ _ _ _ _ (c .before .before .before .before .before .before .before .before .before .before .before .before .before .before .smaller .ensures)) (c .before .before .with-ids .ensures)
 
 same-length-3 : tie.Need-same-length-3
 same-length-3 c = search needs
@@ -54,7 +54,7 @@ same-length-4 : tie.Need-same-length-4
 same-length-4 c = search needs
 
 returns-2 : tie.Need-returns-2
-returns-2 c k p = prints-as (sent-not _ _ _ (c .before .before .before .before .before .before .before .before .before .select-for-rebroadcast .ensures .0 k (records p) (c .before .before .before .before .before .before .before .before .before .before .before .before .before .before .before .before .before .before .pre .0)) (c .before .before .before .before .before .sent2 .given .1) ∙ sent-cut _ _ _ _ _ _ (c .before .before .before .before .before .before .before .before .before .before .before .before .smaller .ensures)) (c .before .before .refused .ensures)
+returns-2 c k p = prints-as (sent-not _ _ _ (c .before .before .before .before .before .before .before .before .before .select-for-rebroadcast .ensures .0 k (records p) (c .before .before .before .before .before .before .before .before .before .before .before .before .before .before .before .before .before .before .pre .0 .0) (c .before .before .before .before .before .before .before .before .before .before .before .before .before .before .before .before .before .before .pre .0 .1 .boxes)) (c .before .before .before .before .before .sent2 .given .1) ∙ sent-cut _ _ _ _ _ _ (c .before .before .before .before .before .before .before .before .before .before .before .before .smaller .ensures)) (c .before .before .refused .ensures)
 
 pub on-rebroadcast-spec : {M : Type 1} → statement M
 on-rebroadcast-spec =

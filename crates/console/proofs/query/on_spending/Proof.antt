@@ -47,7 +47,7 @@ same-length c = search needs
 
 -- src/query.rt:46:1
 returns : tie.Need-returns
-returns c = prints-as (looked-entry (c .before .before .before .before .before .before .before .spending-tx .ensures) (c .before .before .before .before .before .looked .given .1)) (c .before .before .spender .ensures)
+returns c = prints-as (looked-entry (c .before .before .before .before .before .before .before .spending-tx .ensures .1 (c .before .before .before .before .before .before .before .before .before .before .before .pre .0 .entries) (c .before .before .before .before .before .before .before .before .before .before .before .pre .0 .boxes)) (c .before .before .before .before .before .looked .given .1)) (c .before .before .spender .ensures)
 
 -- src/query.rt:46:1
 same-length-2 : tie.Need-same-length-2
@@ -55,7 +55,7 @@ same-length-2 c = search needs
 
 -- src/query.rt:46:1
 returns-2 : tie.Need-returns-2
-returns-2 c = prints-as (looked-none (c .before .before .before .before .before .before .before .spending-tx .ensures) (c .before .before .before .before .before .enum-told .given .1)) (c .before .before .text .ensures)
+returns-2 c = prints-as (looked-none (c .before .before .before .before .before .before .before .spending-tx .ensures .1 (c .before .before .before .before .before .before .before .before .before .before .before .pre .0 .entries) (c .before .before .before .before .before .before .before .before .before .before .before .pre .0 .boxes)) (c .before .before .before .before .before .enum-told .given .1)) (c .before .before .text .ensures)
 
 -- src/query.rt:46:1
 same-length-3 : tie.Need-same-length-3
@@ -63,7 +63,7 @@ same-length-3 c = search needs
 
 -- src/query.rt:46:1
 returns-3 : tie.Need-returns-3
-returns-3 c = prints-as (looked-not (c .before .before .before .before .before .before .before .spending-tx .ensures) (c .before .before .before .before .before .looked2 .given .1)) (c .before .before .refused .ensures)
+returns-3 c = prints-as (looked-not (c .before .before .before .before .before .before .before .spending-tx .ensures .1 (c .before .before .before .before .before .before .before .before .before .before .before .pre .0 .entries) (c .before .before .before .before .before .before .before .before .before .before .before .pre .0 .boxes)) (c .before .before .before .before .before .looked2 .given .1)) (c .before .before .refused .ensures)
 
 pub on-spending-spec : {M : Type 1} → statement M
 on-spending-spec =

@@ -48,7 +48,7 @@ same-length-6 c = search needs
 -- src/submit.rt:119:1
 returns : tie.Need-returns
 unfolding altered
-returns c = rw (← c .before .before .before .before .before .before .before .before .before .before .before .before .before .before .before .before .before .before .before .before .before .submission-of .ensures) (after-processed _ _ _ _ _ _ _ _ _ _ _ _ _ (c .before .before .before .before .before .before .before .before .before .before .before .before .before .before .before .process-words .ensures .0 (c .before .before .before .before .before .before .before .before .before .before .before .before .before .before .before .before .before .before .before .before .before .before .before .before .before .before .before .before .before .before .before .before .before .pre .0 .fits)) (says-processed _ _ _ _ _ _ _) _ _ _ _ (c .before .before .told .ensures))
+returns c = rw (← c .before .before .before .before .before .before .before .before .before .before .before .before .before .before .before .before .before .before .before .before .before .submission-of .ensures) (after-processed _ _ _ _ _ _ _ _ _ _ _ _ _ (c .before .before .before .before .before .before .before .before .before .before .before .before .before .before .before .process-words .ensures .0 (c .before .before .before .before .before .before .before .before .before .before .before .before .before .before .before .before .before .before .before .before .before .before .before .before .before .before .before .before .before .before .before .before .before .pre .0 .store)) (says-processed _ _ _ _ _ _ _) _ _ _ _ (c .before .before .told .ensures))
 
 pub on-tx-spec : {M : Type 1} → statement M
 on-tx-spec =

@@ -36,18 +36,20 @@ inputs-at-requires c κs = search needs
 
 returns : tie.Need-returns
 unfolding entryOf
-returns c = λ t. record {
-  id = c .before .before .before .before .before .before .before .before .before .id-at .ensures t;
-  weight = c .before .before .before .before .before .before .before .before .weight-at .ensures t;
-  base = c .before .before .before .before .before .before .before .base-at .ensures t;
-  size = c .before .before .before .before .before .before .word-at .ensures t;
-  cost = c .before .before .before .before .before .word-at2 .ensures t;
-  validationCost = c .before .before .before .before .validation-cost-at .ensures t;
-  created = c .before .before .before .created-at .ensures t;
-  lastChecked = c .before .before .last-checked-at .ensures t;
-  heightKey = c .before .height-key-at .ensures t;
-  inputs = c .inputs-at .ensures t;
-}
+returns c =
+    λ t.
+    record {
+      id = c .before .before .before .before .before .before .before .before .before .id-at .ensures t;
+      weight = c .before .before .before .before .before .before .before .before .weight-at .ensures t;
+      base = c .before .before .before .before .before .before .before .base-at .ensures t;
+      size = c .before .before .before .before .before .before .word-at .ensures t;
+      cost = c .before .before .before .before .before .word-at2 .ensures t;
+      validationCost = c .before .before .before .before .validation-cost-at .ensures t;
+      created = c .before .before .before .created-at .ensures t;
+      lastChecked = c .before .before .last-checked-at .ensures t;
+      heightKey = c .before .height-key-at .ensures t;
+      inputs = c .inputs-at .ensures t;
+    }
 
 pub entry-at-spec : {M : Type 1} → statement M
 entry-at-spec =

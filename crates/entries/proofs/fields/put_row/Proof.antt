@@ -1,7 +1,7 @@
 -- `fields::put_row` meets its contract: fourteen words, written by three calls and two stores (`put-parts`). Assumes nothing.
 use native.Mathlib.Omega.{arith}
 use lib.ListN.{length-set}
-use Rattle.entries.specs.Layout.{put-parts}
+use Rattle.entries.specs.Storing.{put-parts}
 use borrow.Author.Needs.{needs}
 use Rattle.entries.proofs.fields.put_row.Statement.{statement}
 use Rattle.entries.proofs.fields.put_row.Tie as tie

@@ -1,55 +1,29 @@
--- `fields::validation_cost_at` meets its contract: it knows the layout, opens `EntriesOk` and cites `cost-at`. Assumes nothing.
+-- `fields::validation_cost_at` meets its contract: the words are read in the slot of the rank (`at-cost`). Assumes nothing.
 use native.Mathlib.Omega.{arith}
 use mathlib.Core.Path.{_∙_}
-use Rattle.entries.specs.Layout.{EntriesOk, cost-at}
+use Rattle.entries.specs.Cells.{at-cost}
+use Rattle.entries.specs.Layout.{EntriesOk, costOf}
 use borrow.Author.Needs.{needs}
 use Rattle.entries.proofs.fields.validation_cost_at.Statement.{statement}
 use Rattle.entries.proofs.fields.validation_cost_at.Tie as tie
 
-mul-at : tie.Need-mul-at
+slot-at-requires : tie.Need-slot-at-requires
 unfolding EntriesOk
-mul-at c = omega arith
+slot-at-requires c κs = omega arith
 
-add-cost-of : tie.Need-add-cost-of
-unfolding EntriesOk
-add-cost-of c = omega arith
+get-requires : tie.Need-get-requires
+get-requires c κs = search needs
 
-mul-cost-of : tie.Need-mul-cost-of
-unfolding EntriesOk
-mul-cost-of c = omega arith
-
-shared-slice-read-cost-of : tie.Need-shared-slice-read-cost-of
-unfolding EntriesOk
-shared-slice-read-cost-of c = omega arith
-
-add-cost-of-2 : tie.Need-add-cost-of-2
-unfolding EntriesOk
-add-cost-of-2 c = omega arith
-
-mul-cost-of-2 : tie.Need-mul-cost-of-2
-unfolding EntriesOk
-mul-cost-of-2 c = omega arith
-
-shared-slice-read-cost-of-2 : tie.Need-shared-slice-read-cost-of-2
-unfolding EntriesOk
-shared-slice-read-cost-of-2 c = omega arith
+get-requires-2 : tie.Need-get-requires-2
+get-requires-2 c κs = search needs
 
 cost-of-requires : tie.Need-cost-of-requires
 cost-of-requires c κs = search needs
 
 returns : tie.Need-returns
-returns c = c .cost-of .ensures ∙ cost-at _ _
+returns c =
+    c .cost-of .ensures ∙ (λ t. costOf (c .before .before .get .ensures t) (c .before .get2 .ensures t)) ∙ at-cost (c .before .before .before .before .before .args .s .now) (c .before .before .before .before .before .args .i) _ (c .before .before .before .slot-at .ensures .0)
 
 pub validation-cost-at-spec : {M : Type 1} → statement M
 validation-cost-at-spec =
-    tie.close
-    (tie.spec
-    mul-at
-    add-cost-of
-    mul-cost-of
-    shared-slice-read-cost-of
-    add-cost-of-2
-    mul-cost-of-2
-    shared-slice-read-cost-of-2
-    cost-of-requires
-    returns)
+    tie.close (tie.spec slot-at-requires get-requires get-requires-2 cost-of-requires returns)

@@ -1,28 +1,20 @@
--- `fields::word_at` meets its contract: it knows the layout, opens `EntriesOk` and cites `word-at`. Assumes nothing.
+-- `fields::word_at` meets its contract: the word is read in the slot of the rank (`at-word`). Assumes nothing.
 use native.Mathlib.Omega.{arith}
-use Rattle.entries.specs.Layout.{EntriesOk, word-at}
+use mathlib.Core.Path.{_∙_}
+use Rattle.entries.specs.Cells.{at-word}
+use Rattle.entries.specs.Layout.{EntriesOk}
 use Rattle.entries.proofs.fields.word_at.Statement.{statement}
 use Rattle.entries.proofs.fields.word_at.Tie as tie
 
-mul-result : tie.Need-mul-result
+slot-at-requires : tie.Need-slot-at-requires
 unfolding EntriesOk
-mul-result c = omega arith
+slot-at-requires c κs = omega arith
 
-add-result : tie.Need-add-result
-unfolding EntriesOk
-add-result c = omega arith
-
-mul-result-2 : tie.Need-mul-result-2
-unfolding EntriesOk
-mul-result-2 c = omega arith
-
-shared-slice-read-result : tie.Need-shared-slice-read-result
-unfolding EntriesOk
-shared-slice-read-result c = omega arith
+get-requires : tie.Need-get-requires
+get-requires c κs = let p = c .before .before .pre .1 .1 in omega (arith, c .slot-at .ensures .1)
 
 returns : tie.Need-returns
-returns c = word-at _ _ _ (c .before .pre .1)
+returns c = c .get .ensures ∙ at-word (c .before .before .before .args .s .now) (c .before .before .before .args .i) _ (c .before .before .before .args .j) (c .before .slot-at .ensures .0) (c .before .before .before .pre .1)
 
 pub word-at-spec : {M : Type 1} → statement M
-word-at-spec =
-    tie.close (tie.spec mul-result add-result mul-result-2 shared-slice-read-result returns)
+word-at-spec = tie.close (tie.spec slot-at-requires get-requires returns)

@@ -1,4 +1,7 @@
 -- `gunthyd_spending_tx` meets its contract: what spending_tx finds in the state that was read, as a row. Assumes nothing.
+use Rattle.words.specs.Ids.{idOf}
+use Rattle.mempool.specs.Queries.{spendingOf, spendingWith, entrySeen}
+use Rattle.pool_types.specs.declared.EntryOutcome.the-variants.{NoEntry}
 use native.Mathlib.Omega.{arith}
 use Prim.Native.Nat.{_<_}
 use lib.ListN.{length}
@@ -11,7 +14,7 @@ sub-result : tie.Need-sub-result
 sub-result c = search needs
 
 returns : tie.Need-returns
-returns c = spent-short _ _ _ _ _ (c .if1 .taken)
+returns c = ((NoEntry, spent-short _ _ _ (c .if1 .taken)), λ _ _. spent-short _ _ _ (c .if1 .taken))
 
 sub-result-2 : tie.Need-sub-result-2
 sub-result-2 c = search needs
@@ -19,7 +22,7 @@ sub-result-2 c = search needs
 returns-2 : tie.Need-returns-2
 returns-2 c =
     let g : length (c .before .before .before .before .before .before .args .answer .now) < 6 = omega arith in
-    spent-room _ _ _ _ _ (c .before .if1 .left) g
+    ((NoEntry, spent-room _ _ _ (c .before .if1 .left) g), λ _ _. spent-room _ _ _ (c .before .if1 .left) g)
 
 load-state-requires : tie.Need-load-state-requires
 load-state-requires c κs = search needs
@@ -46,13 +49,31 @@ same-length : tie.Need-same-length
 same-length c = search needs
 
 returns-3 : tie.Need-returns-3
-returns-3 c = spent-entry _ _ _ _ _ (c .before .before .before .before .before .before .before .before .before .before .if1 .left) (c .before .before .before .before .before .before .before .before .before .if2 .left) _ (c .before .before .before .before .before .before .before .before .load-state .ensures) (c .before .before .before .before .before .before .before .spending-tx .ensures) _ _ _ _ (c .before .before .before .before .before .found .given .1) (c .before .before .put-first .ensures)
+returns-3 c =
+    let a = c .before .before .before .before .before .before .before .before .before .before .before .before .before .before .before .args in
+    let o = c .before .before .before .before .before .before .before .spending-tx .result in
+    let f = c .before .before .before .before .before .before .before .spending-tx .ensures in (
+      (o, spent-entry (λ st. spendingWith (a .entries .now) (a .boxes .now) st (entrySeen o)) _ _ (c .before .before .before .before .before .before .before .before .before .before .if1 .left) (c .before .before .before .before .before .before .before .before .before .if2 .left) _ (c .before .before .before .before .before .before .before .before .load-state .ensures) (f .0) _ _ _ _ (c .before .before .before .before .before .found .given .1) (c .before .before .put-first .ensures)),
+      λ k l. spent-entry (λ st. spendingOf (a .entries .now) (a .boxes .now) st (idOf (record { a = a .a; b = a .b; c = a .c; d = a .d }))) _ _ (c .before .before .before .before .before .before .before .before .before .before .if1 .left) (c .before .before .before .before .before .before .before .before .before .if2 .left) _ (c .before .before .before .before .before .before .before .before .load-state .ensures) (f .1 (rw (c .before .before .before .before .before .before .before .before .load-state .ensures) k) (rw (c .before .before .before .before .before .before .before .before .load-state .ensures) l)) _ _ _ _ (c .before .before .before .before .before .found .given .1) (c .before .before .put-first .ensures),
+    )
 
 returns-4 : tie.Need-returns-4
-returns-4 c = spent-none _ _ _ _ _ (c .before .before .before .before .before .if1 .left) (c .before .before .before .before .if2 .left) _ (c .before .before .before .load-state .ensures) (c .before .before .spending-tx .ensures) (c .enum-told .given .1)
+returns-4 c =
+    let a = c .before .before .before .before .before .before .before .before .before .before .args in
+    let o = c .before .before .spending-tx .result in
+    let f = c .before .before .spending-tx .ensures in (
+      (o, spent-none (λ st. spendingWith (a .entries .now) (a .boxes .now) st (entrySeen o)) _ _ (c .before .before .before .before .before .if1 .left) (c .before .before .before .before .if2 .left) _ (c .before .before .before .load-state .ensures) (f .0) (c .enum-told .given .1)),
+      λ k l. spent-none (λ st. spendingOf (a .entries .now) (a .boxes .now) st (idOf (record { a = a .a; b = a .b; c = a .c; d = a .d }))) _ _ (c .before .before .before .before .before .if1 .left) (c .before .before .before .before .if2 .left) _ (c .before .before .before .load-state .ensures) (f .1 (rw (c .before .before .before .load-state .ensures) k) (rw (c .before .before .before .load-state .ensures) l)) (c .enum-told .given .1),
+    )
 
 returns-5 : tie.Need-returns-5
-returns-5 c = spent-refused _ _ _ _ _ (c .before .before .before .before .before .before .if1 .left) (c .before .before .before .before .before .if2 .left) _ (c .before .before .before .before .load-state .ensures) (c .before .before .before .spending-tx .ensures) _ (c .before .found2 .given .1)
+returns-5 c =
+    let a = c .before .before .before .before .before .before .before .before .before .before .before .args in
+    let o = c .before .before .before .spending-tx .result in
+    let f = c .before .before .before .spending-tx .ensures in (
+      (o, spent-refused (λ st. spendingWith (a .entries .now) (a .boxes .now) st (entrySeen o)) _ _ (c .before .before .before .before .before .before .if1 .left) (c .before .before .before .before .before .if2 .left) _ (c .before .before .before .before .load-state .ensures) (f .0) _ (c .before .found2 .given .1)),
+      λ k l. spent-refused (λ st. spendingOf (a .entries .now) (a .boxes .now) st (idOf (record { a = a .a; b = a .b; c = a .c; d = a .d }))) _ _ (c .before .before .before .before .before .before .if1 .left) (c .before .before .before .before .before .if2 .left) _ (c .before .before .before .before .load-state .ensures) (f .1 (rw (c .before .before .before .before .load-state .ensures) k) (rw (c .before .before .before .before .load-state .ensures) l)) _ (c .before .found2 .given .1),
+    )
 
 pub gunthyd-spending-tx-spec : {M : Type 1} → statement M
 gunthyd-spending-tx-spec =

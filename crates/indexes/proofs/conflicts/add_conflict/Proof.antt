@@ -1,6 +1,7 @@
 -- `conflicts::add_conflict` meets its contract, by cases of what `spender` answers. Assumes nothing.
-use borrow.Author.Needs.{needs}
 use Rattle.indexes.specs.Conflicts.{added-by, added-nobody}
+use borrow.Author.Needs.{needs}
+use native.Mathlib.Omega.{arith}
 use Rattle.indexes.proofs.conflicts.add_conflict.Statement.{statement}
 use Rattle.indexes.proofs.conflicts.add_conflict.Tie as tie
 
@@ -20,10 +21,19 @@ same-length : tie.Need-same-length
 same-length c = search needs
 
 returns : tie.Need-returns
-returns c = added-by _ _ _ _ _ _ (c .before .before .before .before .before .before .before .spender .ensures) (c .before .before .before .before .before .id .given .1) (c .before .before .put-once .ensures)
+returns c = (c .before .before .put-once .ensures .high, λ k. added-by _ _ _ _ _ _ (c .before .before .before .before .before .before .before .spender .ensures k) (c .before .before .before .before .before .id .given .1) (c .before .before .put-once .ensures))
 
 returns-2 : tie.Need-returns-2
-returns-2 c = added-nobody _ _ _ (c .before .before .spender .ensures) (c .enum-told .given .1)
+returns-2 c = (omega arith, λ k. added-nobody _ _ _ (c .before .before .spender .ensures k) (c .enum-told .given .1))
 
 pub add-conflict-spec : {M : Type 1} → statement M
-add-conflict-spec = tie.close (tie.spec spender-requires enum-known-id put-once-requires enum-told same-length returns returns-2)
+add-conflict-spec =
+    tie.close
+    (tie.spec
+    spender-requires
+    enum-known-id
+    put-once-requires
+    enum-told
+    same-length
+    returns
+    returns-2)

@@ -1,7 +1,7 @@
 -- `conflicts::put_once` meets its contract: the id is among the first n (`added-in`), or it is stored behind them (`added-new`). Assumes nothing.
-use borrow.Author.Needs.{needs}
 use mathlib.Core.Path.{sym, _∙_}
 use Rattle.indexes.specs.Conflicts.{added-in, added-new}
+use borrow.Author.Needs.{needs}
 use Rattle.indexes.proofs.conflicts.put_once.Statement.{statement}
 use Rattle.indexes.proofs.conflicts.put_once.Tie as tie
 
@@ -30,4 +30,14 @@ returns-2 : tie.Need-returns-2
 returns-2 c = rw (c .before .before .put-id .ensures) (added-new _ _ _ (c .before .before .before .before .before .before .before .before .pre) (sym (c .before .before .before .before .before .among .ensures) ∙ c .before .before .before .before .if1 .left))
 
 pub put-once-spec : {M : Type 1} → statement M
-put-once-spec = tie.close (tie.spec among-requires mul-put-id put-id-requires add-result same-length returns same-length-2 returns-2)
+put-once-spec =
+    tie.close
+    (tie.spec
+    among-requires
+    mul-put-id
+    put-id-requires
+    add-result
+    same-length
+    returns
+    same-length-2
+    returns-2)

@@ -1,72 +1,67 @@
--- `inputs::all_listed` meets its contract. The loop's invariant: the inputs in the slots from i on say what all say. Assumes nothing.
-use native.Mathlib.Omega.{arith}
-use Prim.Native.Nat.{_-_}
-use mathlib.Core.Path.{_≡_, refl, sym, ap, _∙_}
+-- `inputs::all_listed` meets its contract. The loop's invariant: the inputs before slot `at` say what all say (`Checking`). The measure is `at`. Assumes nothing.
+use mathlib.Core.Path.{sym, _∙_}
 use borrow.Author.Tests.{not-true, not-false}
-use lib.ListN.{drop}
 use Rattle.words.specs.Ids.{idOf}
-use Rattle.boxes.specs.Records.{inputsOf}
 use Rattle.boxes.specs.Flat.{idsOf}
-use Rattle.boxes.specs.Layout.{boxesOf, rowsOf, inputs-rows, ok-still, ok-bound}
-use Rattle.indexes.specs.Inputs.{allAmong, input-no, input-end, all-fails, all-goes-on}
+use Rattle.indexes.specs.Inputs.{Checking, check-first, check-none, check-fails, check-on, check-end}
+use borrow.Author.Needs.{needs}
+use native.Mathlib.Omega.{arith}
 use Rattle.indexes.proofs.inputs.all_listed.Statement.{statement}
 use Rattle.indexes.proofs.inputs.all_listed.Tie as tie
 
 abbrev Inv-loop : tie.InvT-loop
-Inv-loop s used id list i₀ i = allAmong (idsOf 4 list) (inputsOf (idOf id) (drop i (rowsOf s used))) ≡ allAmong (idsOf 4 list) (inputsOf (idOf id) (boxesOf s used))
+Inv-loop s n id list at₀ at = Checking (idsOf 4 list) s n (idOf id) at
 
 abbrev μ-loop : tie.MeasureT-loop
-μ-loop s used id list i₀ i = used - i
+μ-loop s n id list at₀ at = at
 
 loop-holds : tie.Need-loop-holds Inv-loop μ-loop
-loop-holds c =
-    let a = c .before .before .args in
-    ap (allAmong (idsOf 4 (a .list .now))) (inputs-rows (idOf (a .id)) (a .s .now) (a .used))
+loop-holds c = check-first _ _ _ _ (c .before .before .pre)
 
-is-input-requires : tie.Need-is-input-requires Inv-loop μ-loop
-is-input-requires c κs = ok-still _ _ _ _ (c .before .before .before .before .pre) refl (omega arith)
+last-input-requires : tie.Need-last-input-requires Inv-loop μ-loop
+last-input-requires c κs = c .before .before .before .before .pre
+
+enum-known-i : tie.Need-enum-known-i Inv-loop μ-loop
+enum-known-i c = search needs
 
 box-key-requires : tie.Need-box-key-requires Inv-loop μ-loop
-box-key-requires c κs = ok-still _ _ _ _ (c .before .before .before .before .before .before .pre) refl (omega arith)
+box-key-requires c κs = c .before .before .before .last-input .ensures .0 .some _ (c .before .i .given .1) .1
 
 has-requires : tie.Need-has-requires Inv-loop μ-loop
-has-requires c κs = omega arith
+has-requires c κs = search needs
 
 returns : tie.Need-returns Inv-loop μ-loop
-returns c =
-    let a = c .before .before .before .before .before .before .before .before .before .args in
-    let t = sym (c .before .before .before .before .is-input .ensures) ∙ c .before .before .before .if1 .taken in
-    let f = sym (c .before .has .ensures) ∙ not-true _ (c .if2 .taken) in
-    sym (all-fails (idsOf 4 (a .list .now)) (a .s .now) (a .used) _ (c .before .before .before .before .before .loop-test .taken) (idOf (a .id)) t _ (c .before .before .box-key .ensures) f) ∙ c .before .before .before .before .before .before .loop .inv
-
-add-i : tie.Need-add-i Inv-loop μ-loop
-add-i c = omega (arith, ok-bound _ _ (c .before .before .before .before .before .before .before .before .before .pre))
+returns c = check-fails _ _ _ _ _ (c .before .before .before .before .before .before .before .before .loop .inv) _ (c .before .before .before .before .before .before .last-input .ensures .0) (c .before .before .before .before .before .before .last-input .ensures .1) _ _ (c .before .before .before .before .i .given .1) (c .before .before .box-key .ensures) (sym (c .before .has .ensures) ∙ not-true _ (c .if1 .taken))
 
 loop-less : tie.Need-loop-less Inv-loop μ-loop
-loop-less c = omega arith
+loop-less c = c .before .before .before .before .before .before .last-input .ensures .0 .some _ (c .before .before .before .before .i .given .1) .0
 
 loop-again : tie.Need-loop-again Inv-loop μ-loop
-loop-again c =
-    let a = c .before .before .before .before .before .before .before .before .before .args in
-    let t = sym (c .before .before .before .before .is-input .ensures) ∙ c .before .before .before .if1 .taken in
-    let f = sym (c .before .has .ensures) ∙ not-false _ (c .if2 .left) in
-    sym (all-goes-on (idsOf 4 (a .list .now)) (a .s .now) (a .used) _ (c .before .before .before .before .before .loop-test .taken) (idOf (a .id)) t _ (c .before .before .box-key .ensures) f) ∙ c .before .before .before .before .before .before .loop .inv
+loop-again c = check-on _ _ _ _ _ (c .before .before .before .before .before .before .before .before .loop .inv) _ (c .before .before .before .before .before .before .last-input .ensures .0) (c .before .before .before .before .before .before .last-input .ensures .1) _ _ (c .before .before .before .before .i .given .1) (c .before .before .box-key .ensures) (sym (c .before .has .ensures) ∙ not-false _ (c .if1 .left))
 
-add-i-2 : tie.Need-add-i-2 Inv-loop μ-loop
-add-i-2 c = omega (arith, ok-bound _ _ (c .before .before .before .before .before .before .pre))
-
-loop-less-2 : tie.Need-loop-less-2 Inv-loop μ-loop
-loop-less-2 c = omega arith
-
-loop-again-2 : tie.Need-loop-again-2 Inv-loop μ-loop
-loop-again-2 c =
-    let a = c .before .before .before .before .before .before .args in
-    ap (allAmong (idsOf 4 (a .list .now))) (sym (input-no (a .s .now) (a .used) _ (c .before .before .loop-test .taken) (idOf (a .id)) (sym (c .before .is-input .ensures) ∙ c .if1 .left))) ∙ c .before .before .before .loop .inv
+enum-told : tie.Need-enum-told Inv-loop μ-loop
+enum-told c = search needs
 
 returns-2 : tie.Need-returns-2 Inv-loop μ-loop
-returns-2 c =
-    let a = c .before .before .before .before .args in
-    ap (allAmong (idsOf 4 (a .list .now))) (sym (input-end (a .s .now) (a .used) _ (c .loop-test .left) (idOf (a .id)))) ∙ c .before .loop .inv
+returns-2 c = check-none _ _ _ _ _ (c .before .before .before .before .loop .inv) _ (c .before .before .last-input .ensures .0) (c .before .before .last-input .ensures .1) (c .enum-told .given .1)
+
+returns-3 : tie.Need-returns-3 Inv-loop μ-loop
+returns-3 c = check-end _ _ _ _ _ (omega arith) (c .before .loop .inv)
 
 pub all-listed-spec : {M : Type 1} → statement M
-all-listed-spec = tie.close (tie.spec Inv-loop μ-loop loop-holds is-input-requires box-key-requires has-requires returns add-i loop-less loop-again add-i-2 loop-less-2 loop-again-2 returns-2)
+all-listed-spec =
+    tie.close
+    (tie.spec
+    Inv-loop
+    μ-loop
+    loop-holds
+    last-input-requires
+    enum-known-i
+    box-key-requires
+    has-requires
+    returns
+    loop-less
+    loop-again
+    enum-told
+    returns-2
+    returns-3)

@@ -1,48 +1,56 @@
--- `inputs::count_inputs` meets its contract. The loop's invariant is `Counting`: the first `at` slots hold n inputs. Assumes nothing.
-use native.Mathlib.Omega.{arith}
-use Prim.Native.Nat.{_-_}
-use mathlib.Core.Path.{refl, sym, _∙_}
+-- `inputs::count_inputs` meets its contract. The loop's invariant: those counted and those before slot `at` are all (`Counting`). The measure is `at`. Assumes nothing.
 use Rattle.words.specs.Ids.{idOf}
-use Rattle.boxes.specs.Layout.{ok-still, ok-bound}
-use Rattle.indexes.specs.Inputs.{Counting, counted-none, counted-yes, counted-no, counted-all}
+use Rattle.indexes.specs.Inputs.{Counting, count-first, count-none, count-more, count-end}
+use borrow.Author.Needs.{needs}
+use native.Mathlib.Omega.{arith}
 use Rattle.indexes.proofs.inputs.count_inputs.Statement.{statement}
 use Rattle.indexes.proofs.inputs.count_inputs.Tie as tie
 
 abbrev Inv-loop : tie.InvT-loop
-Inv-loop s used id at₀ n₀ at n = Counting s used (idOf id) at n
+Inv-loop s n id count₀ at₀ count at = Counting s n (idOf id) at count
 
 abbrev μ-loop : tie.MeasureT-loop
-μ-loop s used id at₀ n₀ at n = used - at
+μ-loop s n id count₀ at₀ count at = at
 
 loop-holds : tie.Need-loop-holds Inv-loop μ-loop
-loop-holds c = counted-none _ _ _
+loop-holds c = count-first _ _ _ (c .before .pre)
 
-is-input-requires : tie.Need-is-input-requires Inv-loop μ-loop
-is-input-requires c κs = ok-still _ _ _ _ (c .before .before .before .pre) refl (omega arith)
+last-input-requires : tie.Need-last-input-requires Inv-loop μ-loop
+last-input-requires c κs = c .before .before .before .pre
 
-add-n : tie.Need-add-n Inv-loop μ-loop
-add-n c = omega (arith, c .before .before .before .loop .inv .few, ok-bound _ _ (c .before .before .before .before .before .pre))
+enum-known-i : tie.Need-enum-known-i Inv-loop μ-loop
+enum-known-i c = search needs
 
-add-at : tie.Need-add-at Inv-loop μ-loop
-add-at c = omega (arith, ok-bound _ _ (c .before .before .before .before .before .pre))
+add-count : tie.Need-add-count Inv-loop μ-loop
+add-count c = omega (arith, c .before .before .before .before .before .loop .inv .few)
 
 loop-less : tie.Need-loop-less Inv-loop μ-loop
-loop-less c = omega arith
+loop-less c = c .before .before .before .last-input .ensures .0 .some _ (c .before .i .given .1) .0
 
 loop-again : tie.Need-loop-again Inv-loop μ-loop
-loop-again c = counted-yes _ _ _ _ _ (c .before .before .loop-test .taken) (sym (c .before .is-input .ensures) ∙ c .if1 .taken) (c .before .before .before .loop .inv)
+loop-again c = count-more _ _ _ _ _ (c .before .before .before .before .before .loop .inv) _ (c .before .before .before .last-input .ensures .0) (c .before .before .before .last-input .ensures .1) _ (c .before .i .given .1)
 
-add-at-2 : tie.Need-add-at-2 Inv-loop μ-loop
-add-at-2 c = omega (arith, ok-bound _ _ (c .before .before .before .before .before .pre))
-
-loop-less-2 : tie.Need-loop-less-2 Inv-loop μ-loop
-loop-less-2 c = omega arith
-
-loop-again-2 : tie.Need-loop-again-2 Inv-loop μ-loop
-loop-again-2 c = counted-no _ _ _ _ _ (c .before .before .loop-test .taken) (sym (c .before .is-input .ensures) ∙ c .if1 .left) (c .before .before .before .loop .inv)
+enum-told : tie.Need-enum-told Inv-loop μ-loop
+enum-told c = search needs
 
 returns : tie.Need-returns Inv-loop μ-loop
-returns c = counted-all _ _ _ _ _ (c .loop-test .left) (c .before .loop .inv)
+returns c = count-none _ _ _ _ _ (c .before .before .before .before .loop .inv) _ (c .before .before .last-input .ensures .0) (c .before .before .last-input .ensures .1) (c .enum-told .given .1)
+
+returns-2 : tie.Need-returns-2 Inv-loop μ-loop
+returns-2 c = count-end _ _ _ _ _ (omega arith) (c .before .loop .inv)
 
 pub count-inputs-spec : {M : Type 1} → statement M
-count-inputs-spec = tie.close (tie.spec Inv-loop μ-loop loop-holds is-input-requires add-n add-at loop-less loop-again add-at-2 loop-less-2 loop-again-2 returns)
+count-inputs-spec =
+    tie.close
+    (tie.spec
+    Inv-loop
+    μ-loop
+    loop-holds
+    last-input-requires
+    enum-known-i
+    add-count
+    loop-less
+    loop-again
+    enum-told
+    returns
+    returns-2)

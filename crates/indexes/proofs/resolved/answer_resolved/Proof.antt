@@ -1,66 +1,85 @@
--- `resolved::answer_resolved` meets its contract. The loop's invariant is `Reading`: the inputs left have the flags left, and say what all say. Assumes nothing.
-use native.Mathlib.Omega.{arith}
+-- `resolved::answer_resolved` meets its contract. The loop's invariant: the inputs before slot `at` have the first j flags, and say what all say (`Reading`). The measure is `at`. Assumes nothing.
 use Prim.Native.Nat.{_-_}
-use mathlib.Core.Path.{refl, sym, _∙_}
-use mathlib.Core.Bool.{true}
+use mathlib.Core.Bool.{true, false}
 use borrow.Author.Tests.{not-true, not-false}
 use Rattle.words.specs.Ids.{idOf}
 use Rattle.boxes.specs.Records.{index}
-use Rattle.boxes.specs.Layout.{boxesOf, ok-still, ok-bound}
-use Rattle.indexes.specs.Resolved.{Reading, read-none, read-end, read-pass, read-more, read-fails, read-on}
+use Rattle.boxes.specs.Layout.{boxesOf}
+use Rattle.indexes.specs.Resolved.{Reading, read-first, read-none, read-flag, read-fails, read-on, read-end}
+use borrow.Author.Needs.{needs}
+use native.Mathlib.Omega.{arith}
 use Rattle.indexes.proofs.resolved.answer_resolved.Statement.{statement}
 use Rattle.indexes.proofs.resolved.answer_resolved.Tie as tie
 
 abbrev Inv-loop : tie.InvT-loop
-Inv-loop s used id flags i₀ j₀ i j = Reading (index true (boxesOf s used)) s flags used (idOf id) i j
+Inv-loop s n id flags at₀ j₀ at j = Reading (index true (boxesOf s n)) flags s n (idOf id) at j
 
 abbrev μ-loop : tie.MeasureT-loop
-μ-loop s used id flags i₀ j₀ i j = used - i
+μ-loop s n id flags at₀ j₀ at j = at
 
 loop-holds : tie.Need-loop-holds Inv-loop μ-loop
-loop-holds c = read-none _ _ _ _ _ (c .before .before .pre .1)
+loop-holds c = read-first _ _ _ _ _ (c .before .before .pre)
 
-is-input-requires : tie.Need-is-input-requires Inv-loop μ-loop
-is-input-requires c κs = ok-still _ _ _ _ (c .before .before .before .before .pre .0) refl (omega arith)
+last-input-requires : tie.Need-last-input-requires Inv-loop μ-loop
+last-input-requires c κs = c .before .before .before .before .pre
 
-box-key-requires : tie.Need-box-key-requires Inv-loop μ-loop
-box-key-requires c κs = ok-still _ _ _ _ (c .before .before .before .before .before .before .pre .0) refl (omega arith)
-
-mul-resolved : tie.Need-mul-resolved Inv-loop μ-loop
-mul-resolved c = omega arith
-
-shared-slice-read-resolved : tie.Need-shared-slice-read-resolved Inv-loop μ-loop
-shared-slice-read-resolved c = read-more _ _ _ _ _ _ _ (c .before .before .before .before .loop-test .taken) (c .before .before .before .before .before .loop .inv) (sym (c .before .before .before .is-input .ensures) ∙ c .before .before .if1 .taken)
-
-resolved-requires : tie.Need-resolved-requires Inv-loop μ-loop
-resolved-requires c κs = c .before .before .before .before .before .before .before .before .pre .0
+enum-known-i : tie.Need-enum-known-i Inv-loop μ-loop
+enum-known-i c = search needs
 
 returns : tie.Need-returns Inv-loop μ-loop
-returns c = read-fails _ _ _ _ _ _ _ (c .before .before .before .before .before .before .loop-test .taken) (c .before .before .before .before .before .before .before .loop .inv) (sym (c .before .before .before .before .before .is-input .ensures) ∙ c .before .before .before .before .if1 .taken) _ (c .before .before .before .box-key .ensures) (sym (c .before .resolved .ensures) ∙ not-true _ (c .if2 .taken))
+returns c = read-flag _ _ _ _ _ _ _ (c .before .before .before .before .before .before .loop .inv) _ (c .before .before .before .before .last-input .ensures .0) (c .before .before .before .before .last-input .ensures .1) _ (c .before .before .i .given .1) (c .if1 .taken) false
 
-add-i : tie.Need-add-i Inv-loop μ-loop
-add-i c = omega (arith, ok-bound _ _ (c .before .before .before .before .before .before .before .before .before .before .pre .0))
+sub-j : tie.Need-sub-j Inv-loop μ-loop
+sub-j c = omega (arith, c .if1 .left)
 
-add-j : tie.Need-add-j Inv-loop μ-loop
-add-j c = omega (arith, read-more _ _ _ _ _ _ _ (c .before .before .before .before .before .before .loop-test .taken) (c .before .before .before .before .before .before .before .loop .inv) (sym (c .before .before .before .before .before .is-input .ensures) ∙ c .before .before .before .before .if1 .taken))
+box-key-requires : tie.Need-box-key-requires Inv-loop μ-loop
+box-key-requires c κs = c .before .before .before .before .last-input .ensures .0 .some _ (c .before .before .i .given .1) .1
 
-loop-less : tie.Need-loop-less Inv-loop μ-loop
-loop-less c = omega arith
+mul-resolved : tie.Need-mul-resolved Inv-loop μ-loop
+mul-resolved c = omega (arith, c .before .before .before .before .before .before .before .loop .inv .low)
 
-loop-again : tie.Need-loop-again Inv-loop μ-loop
-loop-again c = read-on _ _ _ _ _ _ _ (c .before .before .before .before .before .before .loop-test .taken) (c .before .before .before .before .before .before .before .loop .inv) (sym (c .before .before .before .before .before .is-input .ensures) ∙ c .before .before .before .before .if1 .taken) _ (c .before .before .before .box-key .ensures) (sym (c .before .resolved .ensures) ∙ not-false _ (c .if2 .left))
+shared-slice-read-resolved : tie.Need-shared-slice-read-resolved Inv-loop μ-loop
+shared-slice-read-resolved c = omega (arith, c .before .before .before .before .before .before .before .before .loop .inv .low, c .before .before .if1 .left)
 
-add-i-2 : tie.Need-add-i-2 Inv-loop μ-loop
-add-i-2 c = omega (arith, ok-bound _ _ (c .before .before .before .before .before .before .pre .0))
-
-loop-less-2 : tie.Need-loop-less-2 Inv-loop μ-loop
-loop-less-2 c = omega arith
-
-loop-again-2 : tie.Need-loop-again-2 Inv-loop μ-loop
-loop-again-2 c = read-pass _ _ _ _ _ _ _ (c .before .before .loop-test .taken) (c .before .before .before .loop .inv) (sym (c .before .is-input .ensures) ∙ c .if1 .left)
+resolved-requires : tie.Need-resolved-requires Inv-loop μ-loop
+resolved-requires c κs = c .before .before .before .before .before .before .before .before .before .before .before .pre
 
 returns-2 : tie.Need-returns-2 Inv-loop μ-loop
-returns-2 c = read-end _ _ _ _ _ _ _ (c .loop-test .left) (c .before .loop .inv)
+returns-2 c = read-fails _ _ _ _ _ _ _ (c .before .before .before .before .before .before .before .before .before .before .loop .inv) _ (c .before .before .before .before .before .before .before .before .last-input .ensures .0) (c .before .before .before .before .before .before .before .before .last-input .ensures .1) _ (c .before .before .before .before .before .before .i .given .1) (c .before .before .before .before .before .before .before .before .before .before .loop .j - 1) _ (omega (arith, c .before .before .before .before .if1 .left)) (c .before .before .before .box-key .ensures) _ (c .before .resolved .ensures) (not-true _ (c .if2 .taken))
+
+loop-less : tie.Need-loop-less Inv-loop μ-loop
+loop-less c = c .before .before .before .before .before .before .before .before .last-input .ensures .0 .some _ (c .before .before .before .before .before .before .i .given .1) .0
+
+loop-again : tie.Need-loop-again Inv-loop μ-loop
+loop-again c = read-on _ _ _ _ _ _ _ (c .before .before .before .before .before .before .before .before .before .before .loop .inv) _ (c .before .before .before .before .before .before .before .before .last-input .ensures .0) (c .before .before .before .before .before .before .before .before .last-input .ensures .1) _ (c .before .before .before .before .before .before .i .given .1) (c .before .before .before .before .before .before .before .before .before .before .loop .j - 1) _ (omega (arith, c .before .before .before .before .if1 .left)) (c .before .before .before .box-key .ensures) _ (c .before .resolved .ensures) (not-false _ (c .if2 .left))
+
+enum-told : tie.Need-enum-told Inv-loop μ-loop
+enum-told c = search needs
+
+returns-3 : tie.Need-returns-3 Inv-loop μ-loop
+returns-3 c = read-none _ _ _ _ _ _ _ (c .before .before .before .before .loop .inv) _ (c .before .before .last-input .ensures .0) (c .before .before .last-input .ensures .1) (c .enum-told .given .1)
+
+returns-4 : tie.Need-returns-4 Inv-loop μ-loop
+returns-4 c = read-end _ _ _ _ _ _ _ (omega arith) (c .before .loop .inv)
 
 pub answer-resolved-spec : {M : Type 1} → statement M
-answer-resolved-spec = tie.close (tie.spec Inv-loop μ-loop loop-holds is-input-requires box-key-requires mul-resolved shared-slice-read-resolved resolved-requires returns add-i add-j loop-less loop-again add-i-2 loop-less-2 loop-again-2 returns-2)
+answer-resolved-spec =
+    tie.close
+    (tie.spec
+    Inv-loop
+    μ-loop
+    loop-holds
+    last-input-requires
+    enum-known-i
+    returns
+    sub-j
+    box-key-requires
+    mul-resolved
+    shared-slice-read-resolved
+    resolved-requires
+    returns-2
+    loop-less
+    loop-again
+    enum-told
+    returns-3
+    returns-4)

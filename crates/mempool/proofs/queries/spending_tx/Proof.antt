@@ -1,12 +1,12 @@
 -- `queries::spending_tx` meets its contract: the index names one or none. Assumes nothing.
-use Rattle.mempool.specs.Queries.{spending-entries, spending-boxes, spending-by}
+use Rattle.mempool.specs.Queries.{spending-entries, spending-boxes, spending-is, spending-seen, spending-by}
 use Rattle.indexes.specs.Owners.{ownerIds}
 use Rattle.boxes.specs.Layout.{room-ok as boxes-ok}
 use Rattle.entries.specs.Layout.{ok-room}
 use Rattle.pool_types.specs.Outcomes.{lookedOf}
 use mathlib.Core.List.{[], _∷_}
 use native.Mathlib.Omega.{arith}
-use mathlib.Core.Path.{refl, sym, ap, _∙_}
+use mathlib.Core.Path.{sym, ap, _∙_}
 use borrow.Author.Needs.{needs}
 use Rattle.mempool.proofs.queries.spending_tx.Statement.{statement}
 use Rattle.mempool.proofs.queries.spending_tx.Tie as tie
@@ -16,14 +16,14 @@ entries-room-requires c κs = search needs
 
 returns : tie.Need-returns
 unfolding lookedOf
-returns c = spending-entries _ _ _ _ (omega arith)
+returns c = (spending-entries _ _ _ _ (omega arith), λ e b. spending-entries _ _ _ _ (omega arith) ∙ sym (spending-is _ _ _ _))
 
 boxes-room-requires : tie.Need-boxes-room-requires
 boxes-room-requires c κs = search needs
 
 returns-2 : tie.Need-returns-2
 unfolding lookedOf
-returns-2 c = spending-boxes _ _ _ _ (omega arith) (omega arith)
+returns-2 c = (spending-boxes _ _ _ _ (omega arith) (omega arith), λ e b. spending-boxes _ _ _ _ (omega arith) (omega arith) ∙ sym (spending-is _ _ _ _))
 
 owner-of-requires : tie.Need-owner-of-requires
 owner-of-requires c κs = boxes-ok _ _ (omega arith)
@@ -38,11 +38,17 @@ enum-told : tie.Need-enum-told
 enum-told c = search needs
 
 returns-3 : tie.Need-returns-3
-returns-3 c = c .entry-of .ensures ∙ spending-by _ _ _ _ (omega arith) (omega arith) (_ ∷ []) (sym (ap ownerIds (c .before .before .owner .given .1)) ∙ c .before .before .before .before .owner-of .ensures)
+returns-3 c = (
+  c .entry-of .ensures .0 ∙ spending-seen _ _ _ (omega arith) (omega arith) _,
+  λ e b. c .entry-of .ensures .1 e ∙ spending-by _ _ _ (omega arith) (omega arith) _ (_ ∷ []) (sym (ap ownerIds (c .before .before .owner .given .1)) ∙ c .before .before .before .before .owner-of .ensures b),
+)
 
 returns-4 : tie.Need-returns-4
 unfolding lookedOf
-returns-4 c = spending-by _ _ _ _ (omega arith) (omega arith) [] (sym (ap ownerIds (c .enum-told .given .1)) ∙ c .before .before .owner-of .ensures)
+returns-4 c = (
+  spending-seen _ _ _ (omega arith) (omega arith) _,
+  λ e b. spending-by _ _ _ (omega arith) (omega arith) _ [] (sym (ap ownerIds (c .enum-told .given .1)) ∙ c .before .before .owner-of .ensures b),
+)
 
 pub spending-tx-spec : {M : Type 1} → statement M
 spending-tx-spec =

@@ -27,13 +27,13 @@ valid-requires : tie.Need-valid-requires
 valid-requires c κs = search needs
 
 returns : tie.Need-returns
-returns c = λ ys f q. claims-absent _ _ _ _ _ _ f _ _ _ _ _ (c .before .enum-told .given .1) (c .no-due .ensures)
+returns c = λ ys f q. claims-absent _ _ _ _ _ _ _ _ _ _ _ (c .before .enum-told .given .1) (c .no-due .ensures)
 
 same-length : tie.Need-same-length
 same-length c = search needs
 
 returns-2 : tie.Need-returns-2
-returns-2 c = λ ys f q. claims-invalid _ _ _ _ _ _ f _ _ _ _ _ _ _ (c .before .before .before .before .before .before .before .before .before .enum-told2 .given .1) (c .before .before .before .before .before .before .before .insert .ensures) (c .no-due2 .ensures)
+returns-2 c = λ ys f q. claims-invalid _ _ _ _ _ _ _ _ _ _ _ _ _ (c .before .before .before .before .before .before .before .before .before .enum-told2 .given .1) (c .before .before .before .before .before .before .before .insert .ensures .1) (c .no-due2 .ensures)
 
 same-length-2 : tie.Need-same-length-2
 same-length-2 c = search needs

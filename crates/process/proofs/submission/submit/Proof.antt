@@ -1,9 +1,10 @@
 -- `submit` meets its contract: counts that do not fit have no claim but the outcome's; a code is the refusal of `processed`, and with none the verdict is judged. Assumes nothing.
 use mathlib.Core.Path.{sym, _∙_}
-use Rattle.checks.specs.Passed.{passed}
+use Rattle.checks.specs.Passed.{unpooled}
+use Rattle.process.specs.Numbers.{refused-ours}
 use Rattle.process.specs.Post.{stopped, goes-on}
 use Rattle.store.specs.Fits.{fitted}
-use Rattle.process.specs.Claims.{ready, claims-as, claims-refused, placed, offers-nothing, offers}
+use Rattle.process.specs.Claims.{ready, claims-refused, placed, offers-nothing, offers}
 use borrow.Author.Needs.{needs}
 use Rattle.process.proofs.submission.submit.Statement.{statement}
 use Rattle.process.proofs.submission.submit.Tie as tie
@@ -48,12 +49,19 @@ same-length-6 : tie.Need-same-length-6
 same-length-6 c = search needs
 
 returns-2 : tie.Need-returns-2
-returns-2 c = λ ys l q. offers _ _ _ _ _ (c .before .before .before .before .before .before .before .before .fits-all .ensures) ys l (c .before .before .before .before .before .before .before .if1 .left) _ _ _ _ _ _ (claims-as (stopped _ _ _ _ _ _ _ (placed ys (c .before .before .before .before .before .before .before .before .before .before .before .before .before .before .before .before .before .before .args .sub) (fitted _ _ _ ys _ _ l (c .before .before .before .before .before .before .before .before .fits-all .ensures) (c .before .before .before .before .before .before .before .if1 .left)) l (c .before .before .before .before .before .before .standing-for .ensures) q) (c .before .before .check .ensures) (c .before .if2 .taken)) (claims-refused _ _ _ _ _ _ (fitted _ _ _ ys _ _ l (c .before .before .before .before .before .before .before .before .fits-all .ensures) (c .before .before .before .before .before .before .before .if1 .left)) _ (c .no-due2 .ensures)))
+returns-2 c =
+    let test = c .before .before .before .before .before .before .before .before .fits-all .ensures in
+    let left = c .before .before .before .before .before .before .before .if1 .left in
+    let code = c .before .before .check .ensures in
+    λ ys l q.
+    offers _ _ _ _ _ test ys l left (λ k. k)
+    (λ k. stopped _ _ _ _ _ _ _ (placed ys (c .before .before .before .before .before .before .before .before .before .before .before .before .before .before .before .before .before .before .args .sub) (k .fits) l (c .before .before .before .before .before .before .standing-for .ensures) q) (code .1 .1 (k .indexed)) (c .before .if2 .taken))
+    (claims-refused _ _ _ _ _ _ _ (refused-ours _ 0 (c .before .if2 .taken) (code .0)) (c .no-due2 .ensures))
 
 judge-requires : tie.Need-judge-requires
 judge-requires c κs =
     let f = ready _ _ _ _ _ (c .before .before .before .before .before .before .before .before .before .before .before .fits-all .ensures) (c .before .before .before .before .before .before .before .before .before .before .if1 .left) in
-    (f, passed _ _ _ _ _ _ _ _ _ _ (f .tests .pool) (sym (c .before .before .before .before .before .check .ensures) ∙ c .before .before .before .before .if2 .left))
+    (f, c .before .before .before .before .before .check .ensures .1 .0 (c .before .before .before .before .if2 .left))
 
 same-length-7 : tie.Need-same-length-7
 same-length-7 c = search needs
@@ -68,7 +76,15 @@ same-length-10 : tie.Need-same-length-10
 same-length-10 c = search needs
 
 returns-3 : tie.Need-returns-3
-returns-3 c = λ ys l q. offers _ _ _ _ _ (c .before .before .before .before .before .before .before .before .before .before .before .before .before .before .before .before .before .before .before .before .fits-all .ensures) ys l (c .before .before .before .before .before .before .before .before .before .before .before .before .before .before .before .before .before .before .before .if1 .left) _ _ _ _ _ _ (claims-as (goes-on _ _ _ _ _ _ _ (placed ys (c .before .before .before .before .before .before .before .before .before .before .before .before .before .before .before .before .before .before .before .before .before .before .before .before .before .before .before .before .before .before .args .sub) (fitted _ _ _ ys _ _ l (c .before .before .before .before .before .before .before .before .before .before .before .before .before .before .before .before .before .before .before .before .fits-all .ensures) (c .before .before .before .before .before .before .before .before .before .before .before .before .before .before .before .before .before .before .before .if1 .left)) l (c .before .before .before .before .before .before .before .before .before .before .before .before .before .before .before .before .before .before .standing-for .ensures) q) (c .before .before .before .before .before .before .before .before .before .before .before .before .before .before .check .ensures) (c .before .before .before .before .before .before .before .before .before .before .before .before .before .if2 .left)) (c .before .before .before .before .before .before .before .before .judge .ensures ys (fitted _ _ _ ys _ _ l (c .before .before .before .before .before .before .before .before .before .before .before .before .before .before .before .before .before .before .before .before .fits-all .ensures) (c .before .before .before .before .before .before .before .before .before .before .before .before .before .before .before .before .before .before .before .if1 .left)) (placed ys (c .before .before .before .before .before .before .before .before .before .before .before .before .before .before .before .before .before .before .before .before .before .before .before .before .before .before .before .before .before .before .args .sub) (fitted _ _ _ ys _ _ l (c .before .before .before .before .before .before .before .before .before .before .before .before .before .before .before .before .before .before .before .before .fits-all .ensures) (c .before .before .before .before .before .before .before .before .before .before .before .before .before .before .before .before .before .before .before .if1 .left)) l (c .before .before .before .before .before .before .before .before .before .before .before .before .before .before .before .before .before .before .standing-for .ensures) q)))
+returns-3 c =
+    let test = c .before .before .before .before .before .before .before .before .before .before .before .before .before .before .before .before .before .before .before .before .fits-all .ensures in
+    let left = c .before .before .before .before .before .before .before .before .before .before .before .before .before .before .before .before .before .before .before .if1 .left in
+    let code = c .before .before .before .before .before .before .before .before .before .before .before .before .before .before .check .ensures in
+    let passes = c .before .before .before .before .before .before .before .before .before .before .before .before .before .if2 .left in
+    λ ys l q.
+    offers _ _ _ _ _ test ys l left (λ k. record { kept = k; new = unpooled _ _ _ _ _ _ _ _ _ _ _ (sym (code .1 .1 (k .indexed)) ∙ passes) })
+    (λ k. goes-on _ _ _ _ _ _ _ (placed ys (c .before .before .before .before .before .before .before .before .before .before .before .before .before .before .before .before .before .before .before .before .before .before .before .before .before .before .before .before .before .before .args .sub) (k .fits) l (c .before .before .before .before .before .before .before .before .before .before .before .before .before .before .before .before .before .before .standing-for .ensures) q) (code .1 .1 (k .indexed)) passes)
+    (c .before .before .before .before .before .before .before .before .judge .ensures ys (fitted _ _ _ ys _ _ l test left) (placed ys (c .before .before .before .before .before .before .before .before .before .before .before .before .before .before .before .before .before .before .before .before .before .before .before .before .before .before .before .before .before .before .args .sub) (fitted _ _ _ ys _ _ l test left) l (c .before .before .before .before .before .before .before .before .before .before .before .before .before .before .before .before .before .before .standing-for .ensures) q))
 
 pub submit-spec : {M : Type 1} → statement M
 submit-spec =

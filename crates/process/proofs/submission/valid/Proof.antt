@@ -1,5 +1,4 @@
 -- `valid` meets its contract: the bill and the admission stand beside each other. Assumes nothing.
-use Rattle.process.specs.Numbers.{admit-charges}
 use Rattle.process.specs.Claims.{claims-valid, bills}
 use borrow.Author.Needs.{needs}
 use Rattle.process.proofs.submission.valid.Statement.{statement}
@@ -24,7 +23,9 @@ same-length-3 : tie.Need-same-length-3
 same-length-3 c = search needs
 
 returns : tie.Need-returns
-returns c = λ k ys f q. claims-valid _ _ _ _ _ _ f (c .before .before .before .before .before .before .before .before .before .before .before .before .before .before .before .before .before .before .before .before .before .before .before .before .before .args .sub) _ _ _ _ _ _ _ (c .before .before .before .before .before .before .before .before .before .before .before .admit .ensures .0) (c .before .before .before .before .before .before .before .before .before .before .before .admit .ensures .1 .0) (c .before .before .before .before .before .before .before .before .before .before .before .admit .ensures .1 .1) (admit-charges _ _ _ _ _ _ _ _) (c .before .before .before .before .before .before .before .before .before .before .before .before .before .before .before .before .before .before .cost-of .ensures) (bills ys _ f q (c .before .before .before .before .before .before .before .before .before .before .before .before .before .before .before .before .before .before .before .before .before .before .before .before .before .pre .1) (c .before .before .before .before .before .before .before .before .before .before .before .before .before .before .before .before .before .charged .ensures))
+returns c =
+    let n = c .before .before .before .before .before .before .before .before .before .before .before .admit .ensures in
+    λ k ys f q. claims-valid _ _ _ _ _ _ (c .before .before .before .before .before .before .before .before .before .before .before .before .before .before .before .before .before .before .before .before .before .before .before .before .before .args .sub) _ _ _ _ _ _ _ (n .1 .1) (n .0 .ours) (n .1 .0) (n .0 .told) (c .before .before .before .before .before .before .before .before .before .before .before .before .before .before .before .before .before .before .cost-of .ensures) (bills ys _ f q (c .before .before .before .before .before .before .before .before .before .before .before .before .before .before .before .before .before .before .before .before .before .before .before .before .before .pre .1) (c .before .before .before .before .before .before .before .before .before .before .before .before .before .before .before .before .before .charged .ensures))
 
 pub valid-spec : {M : Type 1} → statement M
 valid-spec =

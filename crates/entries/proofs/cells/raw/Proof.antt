@@ -1,0 +1,29 @@
+-- `cells::raw` meets its contract: it knows the layout. Assumes nothing.
+use Rattle.entries.specs.Cells.{rawAt}
+use borrow.Author.Needs.{needs}
+use Rattle.entries.proofs.cells.raw.Statement.{statement}
+use Rattle.entries.proofs.cells.raw.Tie as tie
+
+slots-requires : tie.Need-slots-requires
+slots-requires c κs = search needs
+
+mul-result : tie.Need-mul-result
+mul-result c = search needs
+
+add-result : tie.Need-add-result
+add-result c = search needs
+
+mul-result-2 : tie.Need-mul-result-2
+mul-result-2 c = search needs
+
+shared-slice-read-result : tie.Need-shared-slice-read-result
+shared-slice-read-result c = search needs
+
+returns : tie.Need-returns
+unfolding rawAt
+returns c = rw (c .before .slots .ensures)
+
+pub raw-spec : {M : Type 1} → statement M
+raw-spec =
+    tie.close
+    (tie.spec slots-requires mul-result add-result mul-result-2 shared-slice-read-result returns)
