@@ -7,9 +7,8 @@ use oracle::driver::{Driver, Stop, Submitted, PEERS};
 use oracle::forms::{hex, Form, Id, Output, Return, Settings, Tx, Verdict};
 use oracle::rng::Rng;
 use port::{
-    id_of, words_of, Block, GivenBack, Port, Row, Submission, APPLIED, BLOCK_TX_WORDS, CANDIDATE,
-    DONE, ENDED, ENTRY_WORDS, FULL, ID_WORDS, INPUT_WORDS, INVALID, MISSING, OUTPUT_WORDS,
-    RECORD_WORDS, RETURN_OUTPUT_WORDS, SLOT_WORDS, VALID, VERDICT_NEEDED,
+    bucket_of, id_of, words_of, Block, GivenBack, Layout, Port, Row, Submission, APPLIED, BLOCK_TX_WORDS, BOXES, CACHE, CANDIDATE, DONE, ENDED, ENTRIES, FULL, ID_WORDS,
+    INPUT_WORDS, INVALID, MISSING, OUTPUT_WORDS, PEER_RECORDS, RETURN_OUTPUT_WORDS, VALID, VERDICT_NEEDED,
 };
 
 use crate::tally::{self, Tally};
@@ -581,27 +580,15 @@ impl<'a> Script<'a> {
         }
     }
 
-    /// Submits to the port alone, on words that no calls left. The pool is then
-    /// put back.
+    /// A call to the port alone, on words that no calls left. The pool is then put back.
     pub fn disturbed(&mut self, tx: &Tx) {
         if self.over {
             return;
         }
         self.calls += 1;
         let whole = self.port.clone();
-        let (entries, slots) = (self.port.len() * ENTRY_WORDS, self.port.slots());
-        let (front, back) = (slots * SLOT_WORDS, slots * (RECORD_WORDS - SLOT_WORDS));
         for _ in 0..self.rng.between(1, 30) {
-            // The last words of a record's ids stand at the back of the area.
-            let (table, from, used) = match self.rng.below(5) {
-                0 => (&mut self.port.entries, 0, entries),
-                1 => (&mut self.port.peers, 0, 20),
-                2 => (&mut self.port.boxes, FULL.records * RECORD_WORDS - back - 10, back),
-                _ => (&mut self.port.boxes, 0, front),
-            };
-            let at = from + self.rng.below(used as u64 + 10) as usize;
-            let other = table[from + self.rng.below(used as u64 + 10) as usize];
-            table[at] = self.rng.pick(&[0, 1, 2, u64::MAX, other, other, other]);
+            self.disturb_table();
         }
         for _ in 0..self.rng.below(4) {
             let at = self.rng.below(self.port.state.len() as u64) as usize;
@@ -609,17 +596,53 @@ impl<'a> Script<'a> {
             let sizes = [0, 1, 39, 256, 257, 4_095, 4_096, 4_097, 65_536, 65_537, any];
             self.port.state[at] = self.rng.pick(&sizes);
         }
-        let mut words = Submission::of(tx);
-        let less = self.rng.below(6) as usize;
-        words.inputs.truncate(words.inputs.len().saturating_sub(less));
         let room = self.rng.pick(&[FULL.answer_words, 200, 7]);
         let settings = self.port.state[..9].to_vec();
-        let number = self.port.process(&words, room);
+        let (kinds, number) = self.any_call(tx, room);
         let kept = self.port.state[..9] == settings && self.port.answer[room..] == whole.answer[room..];
         *self.port = whole;
         self.tally.junk += 1;
-        if !tally::OUTCOMES.contains(&number) || !kept {
+        if !kinds.contains(&number) || !kept {
             self.differ(&format!("on disturbed words the port says {number}, rest kept: {kept}"));
+        }
+    }
+
+    /// Changes a word of a table, to one that such a word may have, or to any.
+    fn disturb_table(&mut self) {
+        let used = self.port.used();
+        let Port { entries, boxes, cache, peers, .. } = &mut *self.port;
+        let (table, layout, used) = match self.rng.below(9) {
+            0..=2 => (entries, &ENTRIES, used[0]),
+            3..=5 => (boxes, &BOXES, used[1]),
+            6 | 7 => (cache, &CACHE, used[2]),
+            _ => (peers, &PEER_RECORDS, used[3]),
+        };
+        let slots = layout.slots(table.len());
+        // The word that tells how many are used may be disturbed too.
+        let used = used.clamp(1, slots);
+        let at = some_word(&mut self.rng, layout, table, used);
+        let other = table[some_word(&mut self.rng, layout, table, used)];
+        let (slot, any, slots) = (self.rng.below(used as u64 + 3), self.rng.next(), slots as u64);
+        table[at] = self.rng.pick(&[0, 1, 2, slots - 1, slots, slots + 1, u64::MAX, any, other, other, slot, slot, slot]);
+    }
+
+    /// A call of any kind to the port alone, mostly a submission: the numbers that its kind answers, and what it says.
+    fn any_call(&mut self, tx: &Tx, room: usize) -> (&'static [u64], u64) {
+        let mut words = Submission::of(tx);
+        let less = self.rng.below(6) as usize;
+        words.inputs.truncate(words.inputs.len().saturating_sub(less));
+        let flags = vec![self.rng.chance(50); self.rng.below(4) as usize];
+        let (given, time) = (GivenBack::of(&self.back(tx)), self.time);
+        let block = Block::of(&[(tx.id, given.inputs.chunks(ID_WORDS).map(id_of).collect())]);
+        let port = &mut *self.port;
+        match self.rng.below(12) {
+            0 => (&[0, 1, 3, 20, 23, 27], port.return_to_pool(&given)),
+            1 => (&[0, 1, 20], port.invalidate(time, &tx.id)),
+            2 => (&[100, 1, 2, 20], port.apply_block_at(time, &block, room)),
+            3 => (&[102, 103, 1, 2, 21], port.next(room)),
+            4 => (&[101, 104, 105, 106, 1, 21], port.answer(&flags, tx.verdict)),
+            5 => (&[0, 1, u64::MAX - 1], port.contains(time, &tx.id)),
+            _ => (tally::OUTCOMES, port.process(&words, room)),
         }
     }
 
@@ -648,7 +671,7 @@ impl<'a> Script<'a> {
         if there.0 == FULL.entries - 1 {
             self.tally.meet(tally::FULL_POOL);
         }
-        if self.port.slots() == FULL.records && self.port.records() == FULL.records {
+        if self.port.records() == FULL.records {
             self.tally.meet(tally::FULL_STORE);
         }
         if there.2 == PEERS {
@@ -754,6 +777,27 @@ impl<'a> Script<'a> {
     pub fn finish(mut self) {
         self.compare_pools();
         self.tally.script(self.calls);
+    }
+}
+
+/// The place of a word in a table: at times any, mostly one of a slot that was used, of the index, of the order, or one of the last.
+fn some_word(rng: &mut Rng, layout: &Layout, table: &[u64], used: usize) -> usize {
+    let (slots, words) = (layout.slots(table.len()), table.len());
+    let near = rng.below(used as u64) as usize;
+    let any = rng.below(slots as u64) as usize;
+    let of_index = layout.index.start + rng.below(layout.index.len() as u64) as usize;
+    match rng.below(8) {
+        0 => rng.below(words as u64) as usize,
+        1 => words - 1 - rng.below(2) as usize,
+        2 => (layout.slot * slots + near * layout.order).min(words - 1),
+        3 => layout.slot * any + of_index,
+        4 => layout.slot * near + of_index,
+        5 if !layout.heads.is_empty() => {
+            let (last, head) = rng.pick(layout.heads);
+            let bucket = bucket_of(table[layout.slot * near + last], table[words - 1], slots as u64);
+            layout.slot * bucket as usize + head
+        }
+        _ => layout.slot * near + rng.below(layout.slot as u64) as usize,
     }
 }
 

@@ -31,7 +31,7 @@ pub const SHAPES: &[Shape] = &[
     Shape { name: "few", make: few, scripts: 60 },
     Shape { name: "extremes", make: extremes, scripts: 20 },
     Shape { name: "starts", make: starts, scripts: 4 },
-    Shape { name: "junk", make: junk, scripts: 8 },
+    Shape { name: "junk", make: junk, scripts: 40 },
     Shape { name: "mixed", make: mixed, scripts: 60 },
     Shape { name: "blocks", make: blocks, scripts: 4 },
     Shape { name: "returns", make: returns, scripts: 2 },
@@ -671,7 +671,7 @@ fn meeting(s: &mut Script, boxes: &[Id], ids: &[Id], confirmed: u64) -> Tx {
 }
 
 /// A pool like those of `few`, whose words are then disturbed before each call:
-/// the port ends with an outcome of a submission's kinds, and no more is asked.
+/// the port ends with an outcome of the call's kinds, and no more is asked.
 fn junk(s: &mut Script) {
     s.start(Settings { capacity: 40, min_fee: 0, ..usual() });
     let (boxes, ids) = (s.boxes(30), s.boxes(90));

@@ -4,13 +4,84 @@
 use oracle::driver::{Store, PEERS};
 use oracle::forms::{Id, Return, Settings, Tx, Verdict};
 
-pub const ENTRY_WORDS: usize = 14;
-/// Of a box record: all its words, those that stand together at the front of the area, of these the kind, and the kind of a vacated slot.
-pub const RECORD_WORDS: usize = 10;
-pub const SLOT_WORDS: usize = 8;
-const KIND: usize = 6;
-const GONE: u64 = 2;
-pub const CACHE_WORDS: usize = 5;
+// The tables, in words of 64 bits. How many records a table holds follows from the length of the slice that is lent: a slice of `entries_words(n)` words holds n
+// entries, and so on. Each of the first three has S slots, as many buckets of ids, and behind the slots a word of its own and the key of the buckets, which is the
+// last word. A head belongs to the bucket that has the slot's number.
+//
+// entries: S slots for S entries, 17 words each: id (4), weight, base, size, cost, whether its cost was measured, the measured cost, created, last checked, height
+// key, number of inputs, whether the slot is in use, link, head; S words of order, which name the slot of each rank; how many slots are known; the key.
+// boxes: S slots for S * 4 / 5 records, 13 words each, in order of entry: id of the box (4), id of its owner (4), kind (0 an input, 1 an output, 2 vacated, 3 a hidden
+// input, others a hidden output), links among boxes and among owners, heads of both; how many slots are used; the key.
+// cache: S slots for S * 4 / 5 ids, 7 words each, oldest first: id (4), since, link, head; the first slot that is held; the key.
+// peers: 2 words for each: peer, sum.
+
+/// How a table's words lie.
+pub struct Layout {
+    /// The words of a slot, and which of them are the index's; of a box record its kind too.
+    pub slot: usize,
+    pub index: std::ops::Range<usize>,
+    /// Of each of its ids the last word, and the head of a bucket of such ids.
+    pub heads: &'static [(usize, usize)],
+    /// Words of order behind the slots, for each of them.
+    pub order: usize,
+    /// Words behind all others.
+    pub last: usize,
+}
+
+pub const ENTRIES: Layout = Layout { slot: 17, index: 14..17, heads: &[(3, 16)], order: 1, last: 2 };
+pub const BOXES: Layout = Layout { slot: 13, index: 8..13, heads: &[(3, 11), (7, 12)], order: 0, last: 2 };
+pub const CACHE: Layout = Layout { slot: 7, index: 5..7, heads: &[(3, 6)], order: 0, last: 2 };
+pub const PEER_RECORDS: Layout = Layout { slot: PEER_WORDS, index: 0..0, heads: &[], order: 0, last: 0 };
+
+impl Layout {
+    pub const fn words(&self, slots: usize) -> usize {
+        slots * (self.slot + self.order) + self.last
+    }
+
+    pub const fn slots(&self, words: usize) -> usize {
+        words.saturating_sub(self.last) / (self.slot + self.order)
+    }
+}
+
+/// Of an entry's words: whether its cost was measured, the measured cost, created, last checked.
+const MEASURED: usize = 8;
+const MEASURED_COST: usize = 9;
+const CREATED: usize = 10;
+const CHECKED: usize = 11;
+
+/// The least number of slots of which four fifths are so many.
+pub const fn slots(records: usize) -> usize {
+    (records * 5 + 3) / 4
+}
+
+/// The bucket, of so many, of ids whose last word is `d`: as crate `words` has it (src/buckets.rt).
+pub const fn bucket_of(d: u64, key: u64, buckets: u64) -> u64 {
+    const FACTORS: u64 = 1 << 31;
+    let a = (key % FACTORS + 1_540_483_477) % FACTORS;
+    let b = (key / FACTORS % FACTORS + 461_845_907) % FACTORS;
+    (((d % (1 << 32)) * a + (d >> 32) * b) >> 32) % buckets
+}
+
+/// The words of a table of so many entries.
+pub const fn entries_words(entries: usize) -> usize {
+    ENTRIES.words(entries)
+}
+
+/// The words of a table of so many box records.
+pub const fn boxes_words(records: usize) -> usize {
+    BOXES.words(slots(records))
+}
+
+/// The words of a cache of so many ids.
+pub const fn cache_words(ids: usize) -> usize {
+    CACHE.words(slots(ids))
+}
+
+/// The words of so many peer records.
+pub const fn peers_words(records: usize) -> usize {
+    PEER_RECORDS.words(records)
+}
+
 pub const PEER_WORDS: usize = 2;
 pub const INPUT_WORDS: usize = 5;
 pub const OUTPUT_WORDS: usize = 7;
@@ -45,6 +116,7 @@ pub const VALID: u64 = 106;
 
 // Words of the state that no call tells.
 const RECORDS: usize = 10;
+const CACHED: usize = 11;
 const BLOCK_SUM: usize = 12;
 const PEERS_USED: usize = 13;
 const PASS_OPEN: usize = 14;
@@ -278,12 +350,6 @@ pub fn fee_per_factor(fee: u64, size: u64, cost: u64, by_cycle: bool) -> u64 {
     call!(gunthyd_fee_per_factor(fee, size, cost, by_cycle.into()))
 }
 
-/// The rank of an id among the first `pooled` entries, 2^64−1 where it is not there.
-pub fn find_entry(entries: &[u64], pooled: usize, id: [u64; 4]) -> u64 {
-    let [a, b, c, d] = id;
-    call!(gunthyd_find_entry(ref entries, pooled, a, b, c, d))
-}
-
 pub fn words_of(id: &Id) -> [u64; 4] {
     std::array::from_fn(|i| u64::from_be_bytes(id[i * 8..i * 8 + 8].try_into().unwrap()))
 }
@@ -409,10 +475,10 @@ pub struct Port {
 impl Port {
     pub fn new(store: Store) -> Port {
         Port {
-            entries: vec![0; store.entries * ENTRY_WORDS],
-            boxes: vec![0; store.records * RECORD_WORDS],
-            cache: vec![0; store.cache_ids * CACHE_WORDS],
-            peers: vec![0; PEERS * PEER_WORDS],
+            entries: vec![0; entries_words(store.entries)],
+            boxes: vec![0; boxes_words(store.records)],
+            cache: vec![0; cache_words(store.cache_ids)],
+            peers: vec![0; peers_words(PEERS)],
             answer: vec![0; store.answer_words],
             state: [0; STATE_WORDS],
             stats: [0; STATS_WORDS],
@@ -421,10 +487,17 @@ impl Port {
 
     /// Tables of other sizes: entries, box records, cache ids, peer records.
     pub fn resize(&mut self, sizes: [usize; 4]) {
-        self.entries.resize(sizes[0] * ENTRY_WORDS, 0);
-        self.boxes.resize(sizes[1] * RECORD_WORDS, 0);
-        self.cache.resize(sizes[2] * CACHE_WORDS, 0);
-        self.peers.resize(sizes[3] * PEER_WORDS, 0);
+        self.entries.resize(entries_words(sizes[0]), 0);
+        self.boxes.resize(boxes_words(sizes[1]), 0);
+        self.cache.resize(cache_words(sizes[2]), 0);
+        self.peers.resize(peers_words(sizes[3]), 0);
+    }
+
+    /// The key of the tables' buckets, which no answer depends on: the last word of each table. To be set before a start.
+    pub fn set_key(&mut self, key: u64) {
+        for table in [&mut self.entries, &mut self.boxes, &mut self.cache] {
+            *table.last_mut().expect("a table has words") = key;
+        }
     }
 
     /// 0 where the pool is ready and its statistics begin at time 0, or the refusal.
@@ -555,9 +628,19 @@ impl Port {
         self.len() == 0
     }
 
+    /// The rank of an id among so many that are pooled, 2^64−1 where it is not there.
+    #[inline]
+    pub fn rank(&self, pooled: usize, [a, b, c, d]: [u64; 4]) -> u64 {
+        call!(gunthyd_find_entry(ref self.entries, pooled, a, b, c, d))
+    }
+
     /// Whether a transaction is pooled, or its id held in the cache at this time: 1 or 0.
     pub fn contains(&self, time: u64, id: &Id) -> u64 {
-        let [a, b, c, d] = words_of(id);
+        self.contains_words(time, words_of(id))
+    }
+
+    #[inline]
+    pub fn contains_words(&self, time: u64, [a, b, c, d]: [u64; 4]) -> u64 {
         call!(gunthyd_contains(ref self.entries, ref self.cache, ref self.state, time, a, b, c, d))
     }
 
@@ -578,14 +661,9 @@ impl Port {
         answer.chunks(ROW_WORDS).take(listed as usize).map(Row::of).collect()
     }
 
-    /// Slots of box records in use, vacated ones included.
-    pub fn slots(&self) -> usize {
-        self.state[RECORDS] as usize
-    }
-
-    /// Box records in use: the slots that are not vacated.
+    /// Box records in use.
     pub fn records(&self) -> usize {
-        self.boxes.chunks(SLOT_WORDS).take(self.slots()).filter(|slot| slot[KIND] != GONE).count()
+        self.state[RECORDS] as usize
     }
 
     pub fn block_sum(&self) -> u64 {
@@ -600,8 +678,19 @@ impl Port {
 
     /// What a pass stamps, in priority order: the measured cost, and when it was last checked; and when the entry was made.
     pub fn stamps(&self) -> Vec<(Option<u64>, u64, u64)> {
-        let stamp = |e: &[u64]| ((e[8] != 0).then_some(e[9]), e[11], e[10]);
-        self.entries.chunks(ENTRY_WORDS).take(self.len()).map(stamp).collect()
+        let order = ENTRIES.slot * ENTRIES.slots(self.entries.len());
+        let stamp = |slot: &u64| {
+            let e = &self.entries[*slot as usize * ENTRIES.slot..][..ENTRIES.slot];
+            ((e[MEASURED] != 0).then_some(e[MEASURED_COST]), e[CHECKED], e[CREATED])
+        };
+        self.entries[order..][..self.len()].iter().map(stamp).collect()
+    }
+
+    /// How many slots the calls have used, of entries, boxes, cache and peer records: some of them may be free again.
+    pub fn used(&self) -> [usize; 4] {
+        let behind = |layout: &Layout, table: &[u64]| table[table.len() - layout.last] as usize;
+        let (first, cached) = (behind(&CACHE, &self.cache), self.state[CACHED] as usize);
+        [behind(&ENTRIES, &self.entries), behind(&BOXES, &self.boxes), first.saturating_add(cached), self.state[PEERS_USED] as usize]
     }
 
     /// Says that a pass is open, or that none is, without the call that opens one.
