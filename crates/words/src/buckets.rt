@@ -1,8 +1,8 @@
 // Buckets of ids, for the tables' indexes. Ids with the same last word are in one bucket; which others are depends on a key, so that whoever does
 // not know it cannot choose ids into one bucket. No answer depends on the key.
 ghost use mathlib.Core.Path.{_≡_};
-ghost use Prim.Native.Nat.{_<_};
-ghost use Rattle.words.specs.Buckets.{bucketOf};
+ghost use Prim.Native.Nat.{_<_, _^_};
+ghost use Rattle.words.specs.Buckets.{placeIn, bucketOf};
 
 // Half a word, and the number of factors that a half of the last word is multiplied by.
 const HALF: u64 = 0x1_0000_0000;
@@ -13,7 +13,19 @@ const FIRST: u64 = 1540483477;
 
 const SECOND: u64 = 461845907;
 
-// The bucket, of n, of ids whose last word is `d`: both halves of the word times a factor each, the high half of the sum.
+// A place among n for a number below half a word: the product's high half, or the remainder where n is half a word or more.
+fn place_in(x: u64, n: usize) -> usize
+    requires { ⌜ (x < 2 ^ 32) × (0 < n) ⌝ }
+    ensures { λ r. ⌜ (r ≡ placeIn x n) × (r < n) ⌝ }
+{
+    let m = n as u64;
+    if m < HALF {
+        return (x * m / HALF) as usize;
+    }
+    (x % m) as usize
+}
+
+// The bucket, of n, of ids whose last word is `d`: both halves of the word times a factor each, and the high half of the sum tells the place.
 pub fn bucket_of(d: u64, key: u64, n: usize) -> usize
     requires { ⌜ 0 < n ⌝ }
     ensures { λ r. ⌜ (r ≡ bucketOf d key n) × (r < n) ⌝ }
@@ -21,5 +33,5 @@ pub fn bucket_of(d: u64, key: u64, n: usize) -> usize
     let a = (key % FACTORS + FIRST) % FACTORS;
     let b = (key / FACTORS % FACTORS + SECOND) % FACTORS;
     let sum = d % HALF * a + d / HALF * b;
-    (sum / HALF % n as u64) as usize
+    place_in(sum / HALF % HALF, n)
 }

@@ -34,12 +34,12 @@ mul-sum-2 c = record { fits = lt-of-le-of-lt (le-of-lt (high (c .args .d) (c .ar
 add-sum : tie.Need-add-sum
 add-sum c = omega (arith, low (c .args .d) (c .args .key) (omega arith), high (c .args .d) (c .args .key) (omega arith))
 
-rem-result : tie.Need-rem-result
-rem-result c = search needs
+place-in-requires : tie.Need-place-in-requires
+place-in-requires c κs = search needs
 
 returns : tie.Need-returns
 unfolding bucketOf
-returns c = (refl, bucket-low (c .args .d) (c .args .key) (c .args .n) (omega arith))
+returns c = c .place-in .ensures
 
 pub bucket-of-spec : {M : Type 1} → statement M
-bucket-of-spec = tie.close (tie.spec add-a add-b mul-sum mul-sum-2 add-sum rem-result returns)
+bucket-of-spec = tie.close (tie.spec add-a add-b mul-sum mul-sum-2 add-sum place-in-requires returns)
