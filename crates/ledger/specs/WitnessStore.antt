@@ -9,7 +9,7 @@ use lib.Dec.{leb}
 use lib.ListN.{length, getD, replicate}
 use borrow.Author.Tests.{leb-true}
 use Rattle.words.specs.Ids.{num, idOf, idAt, join-is}
-use Rattle.words.specs.Buckets.{bucketOf}
+use Rattle.words.specs.Buckets.{placeIn, bucketOf}
 use Rattle.words.specs.Chains.{prev, checked, bounded}
 use Rattle.words.specs.declared.ids.Id.{Id}
 use Rattle.pool_types.specs.declared.Mempool.{Mempool}
@@ -192,25 +192,25 @@ stands w is e b u r =
     }
 
 pub s0 : Stands w0
-unfolding prev checked bounded bucketOf ahead cell rawAt bucketKey slotOf entryFrom entryIn entryAt entriesOf E.used E.homeOf E.hashAt E.linkAt E.headAt idAt keyAt kindAt keyWord usedWord slotAt slotsOf slotsUsed recordsIn boxesOf boxesRoom B.lastAt B.hashAt B.linkAt B.headAt
+unfolding prev checked bounded placeIn bucketOf ahead cell rawAt bucketKey slotOf entryFrom entryIn entryAt entriesOf E.used E.homeOf E.hashAt E.linkAt E.headAt idAt keyAt kindAt keyWord usedWord slotAt slotsOf slotsUsed recordsIn boxesOf boxesRoom B.lastAt B.hashAt B.linkAt B.headAt
 s0 = stands w0 (rw (no-rows (replicate 16 0))) (refl, refl, refl, refl, refl, refl) (refl, refl, refl) refl refl
 
 pub s1 : Stands w1
-unfolding prev checked bounded bucketOf ahead cell rawAt bucketKey slotOf entryFrom entryIn entryAt entriesOf E.used E.homeOf E.hashAt E.linkAt E.headAt idAt keyAt kindAt keyWord usedWord slotAt slotsOf slotsUsed recordsIn boxesOf boxesRoom B.lastAt B.hashAt B.linkAt B.headAt
+unfolding prev checked bounded placeIn bucketOf ahead cell rawAt bucketKey slotOf entryFrom entryIn entryAt entriesOf E.used E.homeOf E.hashAt E.linkAt E.headAt idAt keyAt kindAt keyWord usedWord slotAt slotsOf slotsUsed recordsIn boxesOf boxesRoom B.lastAt B.hashAt B.linkAt B.headAt
 s1 = stands w1 (rw (no-rows (replicate 16 0), small 1, small 7, small 11)) (refl, refl, refl, refl, refl, refl) (refl, refl, refl) refl refl
 
 pub s2 : Stands w2
-unfolding prev checked bounded bucketOf ahead cell rawAt bucketKey slotOf entryFrom entryIn entryAt entriesOf E.used E.homeOf E.hashAt E.linkAt E.headAt idAt keyAt kindAt keyWord usedWord slotAt slotsOf slotsUsed recordsIn boxesOf boxesRoom B.lastAt B.hashAt B.linkAt B.headAt
+unfolding prev checked bounded placeIn bucketOf ahead cell rawAt bucketKey slotOf entryFrom entryIn entryAt entriesOf E.used E.homeOf E.hashAt E.linkAt E.headAt idAt keyAt kindAt keyWord usedWord slotAt slotsOf slotsUsed recordsIn boxesOf boxesRoom B.lastAt B.hashAt B.linkAt B.headAt
 s2 = stands w2 (rw (no-rows (replicate 16 0), small 1, small 2, small 7, small 11, small 12)) (refl, refl, refl, refl, refl, refl) (refl, refl, refl) refl refl
 
 pub s3 : Stands w3
-unfolding prev checked bounded bucketOf ahead cell rawAt bucketKey slotOf entryFrom entryIn entryAt entriesOf E.used E.homeOf E.hashAt E.linkAt E.headAt idAt keyAt kindAt keyWord usedWord slotAt slotsOf slotsUsed recordsIn boxesOf boxesRoom B.lastAt B.hashAt B.linkAt B.headAt
+unfolding prev checked bounded placeIn bucketOf ahead cell rawAt bucketKey slotOf entryFrom entryIn entryAt entriesOf E.used E.homeOf E.hashAt E.linkAt E.headAt idAt keyAt kindAt keyWord usedWord slotAt slotsOf slotsUsed recordsIn boxesOf boxesRoom B.lastAt B.hashAt B.linkAt B.headAt
 s3 = stands w3 (rw (no-rows (replicate 16 0), small 1, small 3, small 7, small 8, small 11, small 13)) (refl, refl, refl, refl, refl, refl) (refl, refl, refl) refl refl
 
 pub s4 : Stands w4
-unfolding prev checked bounded bucketOf ahead cell rawAt bucketKey slotOf entryFrom entryIn entryAt entriesOf E.used E.homeOf E.hashAt E.linkAt E.headAt idAt keyAt kindAt keyWord usedWord slotAt slotsOf slotsUsed recordsIn boxesOf boxesRoom B.lastAt B.hashAt B.linkAt B.headAt
+unfolding prev checked bounded placeIn bucketOf ahead cell rawAt bucketKey slotOf entryFrom entryIn entryAt entriesOf E.used E.homeOf E.hashAt E.linkAt E.headAt idAt keyAt kindAt keyWord usedWord slotAt slotsOf slotsUsed recordsIn boxesOf boxesRoom B.lastAt B.hashAt B.linkAt B.headAt
 s4 = stands w4 (rw (no-rows (replicate 16 0), small 1, small 4, small 7, small 8, small 11, small 14)) (refl, refl, refl, refl, refl, refl) (refl, refl, refl) refl refl
 
 pub s5 : Stands w5
-unfolding prev checked bounded bucketOf ahead cell rawAt bucketKey slotOf entryFrom entryIn entryAt entriesOf E.used E.homeOf E.hashAt E.linkAt E.headAt idAt keyAt kindAt keyWord usedWord slotAt slotsOf slotsUsed recordsIn boxesOf boxesRoom B.lastAt B.hashAt B.linkAt B.headAt
+unfolding prev checked bounded placeIn bucketOf ahead cell rawAt bucketKey slotOf entryFrom entryIn entryAt entriesOf E.used E.homeOf E.hashAt E.linkAt E.headAt idAt keyAt kindAt keyWord usedWord slotAt slotsOf slotsUsed recordsIn boxesOf boxesRoom B.lastAt B.hashAt B.linkAt B.headAt
 s5 = stands w5 (rw (no-rows (replicate 16 0), small 4, small 8, small 14)) (refl, refl, refl, refl, refl, refl) (refl, refl, refl) refl refl
