@@ -74,7 +74,11 @@ pub const fn bucket_of(d: u64, key: u64, buckets: u64) -> u64 {
     const FACTORS: u64 = 1 << 31;
     let a = (key % FACTORS + 1_540_483_477) % FACTORS;
     let b = (key / FACTORS % FACTORS + 461_845_907) % FACTORS;
-    (((d % (1 << 32)) * a + (d >> 32) * b) >> 32) % buckets
+    let x = ((d % (1 << 32)) * a + (d >> 32) * b) >> 32;
+    if buckets < 1 << 32 {
+        return (x * buckets) >> 32;
+    }
+    x % buckets
 }
 
 /// The words of a table of so many entries.
