@@ -5,7 +5,7 @@
 -- and two. Nothing outside of this crate unfolds a definition of this file.
 use Prim.Native.Nat.{ℕ, zero, suc, _+_, _-_, _*_, _/_, _≤_, _<_, min, max}
 use mathlib.Core.Path.{_≡_, refl, sym, ap, _∙_}
-use mathlib.Core.Bool.{Bool, true, false, not, _&&_, and-true, and-false}
+use mathlib.Core.Bool.{Bool, true, false, not, _&&_}
 use mathlib.Core.List.{List, [], _∷_, _++_, map}
 use native.Mathlib.Decide.{decLt, ℕ-discrete}
 use native.Mathlib.Omega.{arith}
@@ -384,11 +384,14 @@ pub entry-is : (l : List ℕ) (i k : ℕ) (o : Bool) → isEntry o k (boxAt l i)
 unfolding isEntry boxAt slotAt
 entry-is l i k o = ap (λ (t : Bool). eqb (keyAt l 0 i) k && t) (kinds o (kindAt l i))
 
--- .. as the code tests for it: w is the slot's kind, and v that of a live record
-module _ (l : List ℕ) (i k : ℕ) (o : Bool) (w v : ℕ) (e : w ≡ kindAt l i) (f : v ≡ pick o 1 0) where
-  pub entry-other : (w ≡ v → ⊥) → false ≡ isEntry o k (boxAt l i)
-  entry-other d = sym (entry-is l i k o ∙ rw (ne-eqb (kindAt l i) (pick o 1 0) (λ z. d (e ∙ z ∙ sym f))) (and-false (eqb (boxAt l i .box) k)))
+-- .. as the code tests for it: t tells whether the slot's box x is the one
+module _ (l : List ℕ) (i k : ℕ) (o : Bool) (x : ℕ) (g : x ≡ boxAt l i .box) (t : Bool) (e : t ≡ eqb x k) where
+  tested : isEntry o k (boxAt l i) ≡ (t && eqb (kindAt l i) (pick o 1 0))
+  tested = entry-is l i k o ∙ rw (← g, ← e)
 
-  pub entry-box : w ≡ v → (x : ℕ) → x ≡ boxAt l i .box → eqb x k ≡ isEntry o k (boxAt l i)
-  entry-box d x g =
-      sym (entry-is l i k o ∙ rw (eq-eqb (kindAt l i) (pick o 1 0) (sym e ∙ d ∙ f)) (and-true (eqb (boxAt l i .box) k)) ∙ ap (λ (y : ℕ). eqb y k) (sym g))
+  pub entry-other : not t ≡ true → false ≡ isEntry o k (boxAt l i)
+  entry-other p = sym (tested ∙ rw (not-true t p))
+
+  -- w is the slot's kind, and v that of a live record
+  pub entry-kind : not t ≡ false → (w v : ℕ) → w ≡ kindAt l i → v ≡ pick o 1 0 → eqb w v ≡ isEntry o k (boxAt l i)
+  entry-kind p w v f h = sym (tested ∙ rw (not-false t p, ← f, ← h))

@@ -150,15 +150,16 @@ pub(crate) fn live_kind(out: bool) -> u64
     if out { 1 } else { 0 }
 }
 
-// Whether it is an index's entry for a box.
+// Whether it is an index's entry for a box. The ids are compared first: of two that share a bucket alone they differ, which is foreseen, while the kind is
+// one or the other.
 pub(crate) fn is_entry(s: &[u64], i: usize, out: bool, key: Id) -> bool
     requires { ⌜ i < boxSlots (now s) ⌝ }
     ensures { λ r. ⌜ r ≡ isEntry out (idOf key) (boxAt (now (s .entry)) i) ⌝ }
 {
-    if kind_at(s, i) != live_kind(out) {
+    if !same_id(box_key(s, i), key) {
         return false;
     }
-    same_id(box_key(s, i), key)
+    kind_at(s, i) == live_kind(out)
 }
 
 // ---- what is written
