@@ -9,32 +9,26 @@ use Rattle.words.specs.Lists.{pick}
 use Rattle.boxes.specs.Records.{BoxRec}
 use Rattle.boxes.specs.Slots.{Slot}
 use Rattle.boxes.specs.Layout.{boxSlots, slotAt, boxAt, recordsIn, records-none, records-more, records-ext}
-use Rattle.boxes.specs.Index.{Indexed, indexed-none, indexed-same, bothIn, both-slot, both-more}
-use Rattle.boxes.specs.Stores.{Put, put-others}
+use Rattle.boxes.specs.Index.{Indexed, indexed-none, bothIn, both-slot, both-more}
+use Rattle.boxes.specs.Stores.{Put, put-others, indexed-before}
 
 -- ---- one record
 
 pub record Moved (l m : List ℕ) (from to : ℕ) : Type 0 where
   pub here : slotAt m to ≡ slotAt l from
-  pub others : (j : ℕ) → (j ≡ to → ⊥) → slotAt m j ≡ slotAt l j
+  pub others : (j : ℕ) → j < boxSlots l → (j ≡ to → ⊥) → slotAt m j ≡ slotAt l j
   pub index : (c : ℕ) → c < 2 → Indexed l c to → Indexed m c (to + 1)
 
 -- a record that is written behind an index's slots leaves the index as it is
 put-index : (l m : List ℕ) (n : ℕ) (x : Slot) → n < boxSlots l → length m ≡ length l → Put l m n x → (c : ℕ) → c < 2 → Indexed l c n → Indexed m c n
-put-index l m n x h e p c q i =
-    indexed-same l m c n e
-    (p .words (boxSlots l) 1 refl (omega arith) (λ u v. omega (arith, u)))
-    (λ j b. p .words j (c * 4 + 3) (omega arith) (omega arith) (λ u v. omega (arith, u)))
-    (λ j b. p .words j (9 + c) (omega arith) (omega arith) (λ u v. omega arith))
-    (λ j b. p .words j (11 + c) (omega arith) (omega arith) (λ u v. omega arith))
-    i
+put-index l m n x h e w c q i = indexed-before l m n (n + 1) e (omega arith) (λ p z. w .words p (λ r. z n (omega arith) (omega arith) r)) c q i
 
 pub moved-in : (l a m : List ℕ) (from to : ℕ) → to < boxSlots l → length a ≡ length l → Put l a to (slotAt l from) → (r : to < boxSlots a) → m ≡ bothIn a to r → Moved l m from to
 moved-in l a m from to h e p r f =
     rw f
     (record {
-      here = both-slot a to r to ∙ p .here;
-      others = λ j d. both-slot a to r j ∙ put-others l a to (slotAt l from) p j d;
+      here = both-slot a to r to r ∙ p .here;
+      others = λ j b d. both-slot a to r j (omega (arith, e)) ∙ put-others l a to (slotAt l from) p j d;
       index = λ c q x. both-more a to r c q (put-index l a to (slotAt l from) h e p c q x);
     })
 
@@ -53,7 +47,7 @@ pub record Moves (l₀ : List ℕ) (used : ℕ) (l : List ℕ) (w i : ℕ) : Typ
   pub high : i ≤ used
   pub count : w ≡ length (recordsIn l₀ i)
   pub rows : recordsIn l w ≡ recordsIn l₀ i
-  pub rest : (j : ℕ) → i ≤ j → slotAt l j ≡ slotAt l₀ j
+  pub rest : (j : ℕ) → i ≤ j → j < used → slotAt l j ≡ slotAt l₀ j
   pub index : (c : ℕ) → c < 2 → Indexed l c w
 
 pub moves-none : (l : List ℕ) (used : ℕ) → Moves l used l 0 0
@@ -64,7 +58,7 @@ moves-none l used =
       high = omega arith;
       count = rw (records-none l);
       rows = refl;
-      rest = λ j g. refl;
+      rest = λ j g b. refl;
       index = λ c q. indexed-none l c;
     }
 
@@ -86,7 +80,7 @@ added-stays s e = rw e
 
 module _ (l₀ : List ℕ) (used : ℕ) (l : List ℕ) (w i : ℕ) (s : Moves l₀ used l w i) (h : i < used) where
   here : recordsIn l₀ (i + 1) ≡ recordsIn l₀ i ++ added (slotAt l i)
-  here = more l₀ i ∙ ap (λ (x : Slot). recordsIn l₀ i ++ added x) (sym (s .rest i (omega arith)))
+  here = more l₀ i ∙ ap (λ (x : Slot). recordsIn l₀ i ++ added x) (sym (s .rest i (omega arith) h))
 
   pub moves-gone : slotAt l i .gone ≡ true → Moves l₀ used l w (i + 1)
   moves-gone t =
@@ -96,15 +90,15 @@ module _ (l₀ : List ℕ) (used : ℕ) (l : List ℕ) (w i : ℕ) (s : Moves l�
         high = omega arith;
         count = s .count ∙ ap length (sym same);
         rows = s .rows ∙ sym same;
-        rest = λ j g. s .rest j (omega arith);
+        rest = λ j g b. s .rest j (omega arith) b;
         index = s .index;
       }
     where
       same : recordsIn l₀ (i + 1) ≡ recordsIn l₀ i
       same = here ∙ ap (λ (x : List BoxRec). recordsIn l₀ i ++ x) (added-gone (slotAt l i) t) ∙ append-nil (recordsIn l₀ i)
 
-  pub moves-kept : (m : List ℕ) → length m ≡ length l → slotAt l i .gone ≡ false → Moved l m i w → Moves l₀ used m (w + 1) (i + 1)
-  moves-kept m e t k =
+  pub moves-kept : (m : List ℕ) → used ≤ boxSlots l → length m ≡ length l → slotAt l i .gone ≡ false → Moved l m i w → Moves l₀ used m (w + 1) (i + 1)
+  moves-kept m b e t k =
       record {
         len = e ∙ s .len;
         low = omega (arith, s .low);
@@ -113,9 +107,9 @@ module _ (l₀ : List ℕ) (used : ℕ) (l : List ℕ) (w i : ℕ) (s : Moves l�
         rows =
             more m w
             ∙ ap (λ (x : Slot). recordsIn m w ++ added x) (k .here)
-            ∙ ap (λ (x : List BoxRec). x ++ added (slotAt l i)) (records-ext l m w (λ j b. k .others j (λ z. omega (arith, z))) ∙ s .rows)
+            ∙ ap (λ (x : List BoxRec). x ++ added (slotAt l i)) (records-ext l m w (λ j g. k .others j (omega (arith, s .low)) (λ z. omega (arith, z))) ∙ s .rows)
             ∙ sym here;
-        rest = λ j g. k .others j (λ z. omega (arith, s .low, z)) ∙ s .rest j (omega arith);
+        rest = λ j g y. k .others j (omega arith) (λ z. omega (arith, s .low, z)) ∙ s .rest j (omega arith) y;
         index = λ c q. k .index c q (s .index c q);
       }
     where

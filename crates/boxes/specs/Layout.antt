@@ -1,12 +1,13 @@
 -- The table of box records in words: the slots (`slotsOf`), what they read as (`rowsOf`), the records (`boxesOf`), how many there is room for
--- (`boxesRoom`, `BoxesOk`), and the laws of all. Slot i has thirteen words, from index 13 * i on: the box's id, the owner's id, the kind, the slot's
--- link in the index of boxes and in that of owners, and the heads of bucket i in both. Behind the slots stand how many of them are used, and the key
--- of the buckets. Nothing outside of this crate unfolds a definition of this file.
+-- (`boxesRoom`, `BoxesOk`), and the laws of all. Slot i has eleven words, from index 11 * i on: the box's id, the kind, the slot's link in the index of
+-- boxes, the owner's id, and its link in the index of owners, so that what a search reads of a slot stands together. Behind the slots stand the heads
+-- of all buckets of boxes, those of all buckets of owners, how many slots are used, and the key of the buckets: that is two words more for each slot,
+-- and two. Nothing outside of this crate unfolds a definition of this file.
 use Prim.Native.Nat.{ℕ, zero, suc, _+_, _-_, _*_, _/_, _≤_, _<_, min, max}
 use mathlib.Core.Path.{_≡_, refl, sym, ap, _∙_}
-use mathlib.Core.Bool.{Bool, true, false, not, _&&_, and-true, and-false}
+use mathlib.Core.Bool.{Bool, true, false, not, _&&_}
 use mathlib.Core.List.{List, [], _∷_, _++_, map}
-use native.Mathlib.Decide.{ℕ-discrete}
+use native.Mathlib.Decide.{decLt, ℕ-discrete}
 use native.Mathlib.Omega.{arith}
 use lib.ListN.{length, getD}
 use lib.Dec.{eqb, ltb}
@@ -30,6 +31,10 @@ isSet w = not (eqb w 0)
 abbrev pub boxSlots : List ℕ → ℕ
 boxSlots l = (length l - 2) / 13
 
+-- how many slots a part of the words has that starts with one
+abbrev pub partSlots : List ℕ → ℕ
+partSlots l = length l / 11
+
 -- how many records: document 01's R. The rest is slack.
 unfoldable pub boxesRoom : List ℕ → ℕ
 boxesRoom l = boxSlots l * 4 / 5
@@ -37,14 +42,109 @@ boxesRoom l = boxSlots l * 4 / 5
 unfoldable pub BoxesOk : List ℕ → ℕ → Type 0
 BoxesOk l n = n ≤ boxesRoom l
 
+-- ---- where the words stand: the id and the link in column c of slot i, 0 the box's and 1 the owner's; its kind; the head of bucket b, of s; and
+-- behind all, how many slots are used and the key
+
+abbrev pub idPlace : ℕ → ℕ → ℕ
+idPlace c i = i * 11 + c * 6
+
+abbrev pub kindPlace : ℕ → ℕ
+kindPlace i = i * 11 + 4
+
+abbrev pub linkPlace : ℕ → ℕ → ℕ
+linkPlace c i = i * 11 + 5 + c * 5
+
+unfoldable pub headPlace : ℕ → ℕ → ℕ → ℕ
+headPlace s zero b = s * 11 + b
+headPlace s (suc c) b = s * 12 + b
+
+abbrev pub usedPlace : ℕ → ℕ
+usedPlace s = s * 13
+
+abbrev pub keyPlace : ℕ → ℕ
+keyPlace s = s * 13 + 1
+
+-- the words of the record in slot i: all of the slot but its links
+pub record OfRow (i p : ℕ) : Type 0 where
+  pub from : i * 11 ≤ p
+  pub to : p < i * 11 + 11
+  pub not-box : p ≡ linkPlace 0 i → ⊥
+  pub not-owner : p ≡ linkPlace 1 i → ⊥
+
+pub of-row : (i a : ℕ) {p : ℕ} → a < 11 → (a ≡ 5 → ⊥) → (a ≡ 10 → ⊥) → p ≡ i * 11 + a → OfRow i p
+of-row i a h d e f = record { from = omega arith; to = omega arith; not-box = λ g. d (omega arith); not-owner = λ g. e (omega arith) }
+
+pub row-unique : (i j p : ℕ) → OfRow i p → OfRow j p → i ≡ j
+row-unique i j p q r = go (decLt i j) (decLt j i)
+  where
+    go : Dec (i < j) → Dec (j < i) → i ≡ j
+    go (yes x) y = absurd (omega (arith, q .to, r .from))
+    go (no x) (yes y) = absurd (omega (arith, q .from, r .to))
+    go (no x) (no y) = omega (arith, x, y)
+
+pub kind-row : (i : ℕ) → OfRow i (kindPlace i)
+kind-row i = of-row i 4 (omega arith) (λ e. omega arith) (λ e. omega arith) (omega arith)
+
+-- the last word of an id
+pub last-row : (c i : ℕ) → c < 2 → OfRow i (idPlace c i + 3)
+last-row c i h = of-row i (c * 6 + 3) (omega arith) (λ e. omega arith) (λ e. omega arith) (omega arith)
+
+-- a link is no word of a record
+pub link-off : (c i j : ℕ) → c < 2 → OfRow j (linkPlace c i) → ⊥
+link-off zero i j h r = omega (arith, r .not-box)
+link-off (suc zero) i j h r = omega (arith, r .not-owner)
+link-off (suc (suc c)) i j h r = omega arith
+
+-- and two links are one only where slot and column are the same
+pub link-unique : (c o i j : ℕ) → c < 2 → o < 2 → linkPlace c i ≡ linkPlace o j → (i ≡ j) × (c ≡ o)
+link-unique c o i j p q e = go (decLt i j) (decLt j i)
+  where
+    go : Dec (i < j) → Dec (j < i) → (i ≡ j) × (c ≡ o)
+    go (yes x) y = absurd (omega arith)
+    go (no x) (yes y) = absurd (omega arith)
+    go (no x) (no y) = let z : i ≡ j = omega (arith, x, y) in (z, omega arith)
+
+-- heads stand behind the slots and before the used word, each in a place of its own
+pub head-low : (s c b : ℕ) → s * 11 ≤ headPlace s c b
+unfolding headPlace
+head-low s zero b = omega arith
+head-low s (suc c) b = omega arith
+
+pub head-high : (s c b : ℕ) → b < s → headPlace s c b < s * 13
+unfolding headPlace
+head-high s zero b h = omega arith
+head-high s (suc c) b h = omega arith
+
+pub head-unique : (s c o b d : ℕ) → c < 2 → o < 2 → b < s → d < s → headPlace s c b ≡ headPlace s o d → (c ≡ o) × (b ≡ d)
+unfolding headPlace
+head-unique s zero zero b d p q h g e = (refl, omega arith)
+head-unique s zero (suc o) b d p q h g e = absurd (omega arith)
+head-unique s (suc c) zero b d p q h g e = absurd (omega arith)
+head-unique s (suc c) (suc o) b d p q h g e = (omega arith, omega arith)
+
+-- .. as the code finds it
+pub head-box : (s c b : ℕ) → c ≡ 0 → s * 11 + b ≡ headPlace s c b
+unfolding headPlace
+head-box s c b e = rw e
+
+pub head-owner : (s c b : ℕ) → (c ≡ 0 → ⊥) → s * 12 + b ≡ headPlace s c b
+unfolding headPlace
+head-owner s zero b d = absurd (d refl)
+head-owner s (suc c) b d = refl
+
+-- three slots have 41 words: the second slot is from 11 on, the heads from 33 and from 36 on
+places-edge : (idPlace 1 1 ≡ 17) × (kindPlace 1 ≡ 15) × (linkPlace 1 1 ≡ 21) × (headPlace 3 0 0 ≡ 33) × (headPlace 3 1 2 ≡ 38) × (usedPlace 3 ≡ 39) × (keyPlace 3 ≡ 40)
+unfolding headPlace
+places-edge = (refl, refl, refl, refl, refl, refl, refl)
+
 -- ---- the words of a slot
 
--- the id in column c of slot i: 0 the box's, 1 the owner's
+-- the id in column c of slot i
 unfoldable pub keyAt : List ℕ → ℕ → ℕ → ℕ
-keyAt l c i = idAt l (i * 13 + c * 4)
+keyAt l c i = idAt l (idPlace c i)
 
 unfoldable pub kindAt : List ℕ → ℕ → ℕ
-kindAt l i = getD l (i * 13 + 8) 0
+kindAt l i = getD l (kindPlace i) 0
 
 -- the kind: 0 a live input, 1 a live output, 2 a vacated slot, 3 a hidden input, and another number a hidden output
 abbrev pub outKind : ℕ → Bool
@@ -79,10 +179,10 @@ rows = record { len = λ l n. length-tab (boxAt l) n; get = λ l n i d h. getD-t
 -- ---- the words behind the slots
 
 unfoldable pub usedWord : List ℕ → ℕ
-usedWord l = getD l (boxSlots l * 13) 0
+usedWord l = getD l (usedPlace (boxSlots l)) 0
 
 unfoldable pub keyWord : List ℕ → ℕ
-keyWord l = getD l (boxSlots l * 13 + 1) 0
+keyWord l = getD l (keyPlace (boxSlots l)) 0
 
 -- how many slots n records use: the word is not believed where there are none, and taken for a number of slots that they may use
 unfoldable pub slotsUsed : List ℕ → ℕ → ℕ
@@ -284,11 +384,14 @@ pub entry-is : (l : List ℕ) (i k : ℕ) (o : Bool) → isEntry o k (boxAt l i)
 unfolding isEntry boxAt slotAt
 entry-is l i k o = ap (λ (t : Bool). eqb (keyAt l 0 i) k && t) (kinds o (kindAt l i))
 
--- .. as the code tests for it: w is the slot's kind, and v that of a live record
-module _ (l : List ℕ) (i k : ℕ) (o : Bool) (w v : ℕ) (e : w ≡ kindAt l i) (f : v ≡ pick o 1 0) where
-  pub entry-other : (w ≡ v → ⊥) → false ≡ isEntry o k (boxAt l i)
-  entry-other d = sym (entry-is l i k o ∙ rw (ne-eqb (kindAt l i) (pick o 1 0) (λ z. d (e ∙ z ∙ sym f))) (and-false (eqb (boxAt l i .box) k)))
+-- .. as the code tests for it: t tells whether the slot's box x is the one
+module _ (l : List ℕ) (i k : ℕ) (o : Bool) (x : ℕ) (g : x ≡ boxAt l i .box) (t : Bool) (e : t ≡ eqb x k) where
+  tested : isEntry o k (boxAt l i) ≡ (t && eqb (kindAt l i) (pick o 1 0))
+  tested = entry-is l i k o ∙ rw (← g, ← e)
 
-  pub entry-box : w ≡ v → (x : ℕ) → x ≡ boxAt l i .box → eqb x k ≡ isEntry o k (boxAt l i)
-  entry-box d x g =
-      sym (entry-is l i k o ∙ rw (eq-eqb (kindAt l i) (pick o 1 0) (sym e ∙ d ∙ f)) (and-true (eqb (boxAt l i .box) k)) ∙ ap (λ (y : ℕ). eqb y k) (sym g))
+  pub entry-other : not t ≡ true → false ≡ isEntry o k (boxAt l i)
+  entry-other p = sym (tested ∙ rw (not-true t p))
+
+  -- w is the slot's kind, and v that of a live record
+  pub entry-kind : not t ≡ false → (w v : ℕ) → w ≡ kindAt l i → v ≡ pick o 1 0 → eqb w v ≡ isEntry o k (boxAt l i)
+  entry-kind p w v f h = sym (tested ∙ rw (not-false t p, ← f, ← h))

@@ -14,9 +14,9 @@ use Rattle.words.specs.Tables.{of-none, of-suc}
 use Rattle.boxes.specs.Records.{BoxRec, hide, enterBox, enterBoxes, enterTx}
 use Rattle.boxes.specs.Flat.{countOf, idsTo, idsOf, ids}
 use Rattle.boxes.specs.Slots.{Slot}
-use Rattle.boxes.specs.Layout.{boxSlots, slotAt, boxAt, recordsIn, records-more, records-ext, records-hide}
-use Rattle.boxes.specs.Index.{Indexed, indexed-same, slot-ext, bothIn, both-slot, both-more}
-use Rattle.boxes.specs.Stores.{indexed-kinds}
+use Rattle.boxes.specs.Layout.{boxSlots, row-unique, slotAt, boxAt, recordsIn, records-more, records-ext, records-hide}
+use Rattle.boxes.specs.Index.{Indexed, slot-ext, bothIn, both-slot, both-more}
+use Rattle.boxes.specs.Stores.{indexed-before, indexed-kinds}
 use Rattle.boxes.specs.Hiding.{Hidden}
 use Rattle.boxes.specs.Writing.{WroteBoth}
 
@@ -38,17 +38,17 @@ enter-suc f rs n = rw (add-one n)
 pub record OneIn (l m : List ℕ) (i : ℕ) : Type 0 where
   pub index : (c : ℕ) → c < 2 → Indexed l c i → Indexed m c (i + 1)
   pub rows : Indexed l 0 i → slotAt l i .gone ≡ false → recordsIn m (i + 1) ≡ enterRow (boxAt l i) (recordsIn l i)
-  pub rest : (j : ℕ) → i < j → slotAt m j ≡ slotAt l j
+  pub rest : (j : ℕ) → i < j → j < boxSlots l → slotAt m j ≡ slotAt l j
 
 module _ (l a m : List ℕ) (i k : ℕ) (o : Bool) (e : length a ≡ length l) (p : k ≡ boxAt l i .box) (q : o ≡ boxAt l i .out) (h : Hidden l a i o k) (r : i < boxSlots a) (f : m ≡ bothIn a i r) where
-  slots-in : (j : ℕ) → slotAt m j ≡ slotAt a j
-  slots-in j = rw f (both-slot a i r j)
+  slots-in : (j : ℕ) → j < boxSlots a → slotAt m j ≡ slotAt a j
+  slots-in j b = rw f (both-slot a i r j b)
 
   here : slotAt m i ≡ slotAt l i
-  here = slots-in i ∙ h .rest i (omega arith)
+  here = slots-in i r ∙ h .rest i (omega arith)
 
   older : Indexed l 0 i → recordsIn m i ≡ map (hide (boxAt l i .out) (boxAt l i .box)) (recordsIn l i)
-  older x = records-hide l m (boxAt l i .out) (boxAt l i .box) i (λ j b. slots-in j ∙ rw (← q, ← p) (h .slots x j b))
+  older x = records-hide l m (boxAt l i .out) (boxAt l i .box) i (λ j b. slots-in j (omega arith) ∙ rw (← q, ← p) (h .slots x j b))
 
   newest : slotAt l i .gone ≡ false → pick (slotAt m i .gone) [] (boxAt m i ∷ []) ≡ boxAt l i ∷ []
   unfolding boxAt
@@ -57,9 +57,9 @@ module _ (l a m : List ℕ) (i k : ℕ) (o : Bool) (e : length a ≡ length l) (
   pub one-in : OneIn l m i
   one-in =
       record {
-        index = λ c b x. rw f (both-more a i r c b (indexed-kinds l a e (h .words) c i b x));
+        index = λ c b x. rw f (both-more a i r c b (indexed-kinds l a i e (omega (arith, e)) (h .words) c i b x));
         rows = λ x t. records-more m i ∙ ap (λ (y : List BoxRec). recordsIn m i ++ y) (newest t) ∙ ap (λ (y : List BoxRec). y ++ (boxAt l i ∷ [])) (older x);
-        rest = λ j b. slots-in j ∙ h .rest j (omega arith);
+        rest = λ j b g. slots-in j (omega (arith, e)) ∙ h .rest j (omega arith);
       }
 
 -- ---- all of them
@@ -72,15 +72,15 @@ pub record AllIn (l m : List ℕ) (used n : ℕ) : Type 0 where
 pub record Enters (l₀ : List ℕ) (used : ℕ) (l : List ℕ) (n : ℕ) : Type 0 where
   pub len : length l ≡ length l₀
   pub all : AllIn l₀ l used n
-  pub rest : (j : ℕ) → used + n ≤ j → slotAt l j ≡ slotAt l₀ j
+  pub rest : (j : ℕ) → used + n ≤ j → j < boxSlots l₀ → slotAt l j ≡ slotAt l₀ j
 
 pub enters-none : (l : List ℕ) (used : ℕ) → Enters l used l 0
 unfolding entersTo
-enters-none l used = record { len = refl; all = record { index = λ c b x. rw (add-zero used) x; rows = λ x t. rw (add-zero used) refl }; rest = λ j b. refl }
+enters-none l used = record { len = refl; all = record { index = λ c b x. rw (add-zero used) x; rows = λ x t. rw (add-zero used) refl }; rest = λ j b g. refl }
 
-module _ (l₀ : List ℕ) (used : ℕ) (l m : List ℕ) (n : ℕ) (s : Enters l₀ used l n) (e : length m ≡ length l) (o : OneIn l m (used + n)) where
+module _ (l₀ : List ℕ) (used : ℕ) (l m : List ℕ) (n : ℕ) (s : Enters l₀ used l n) (h : used + n < boxSlots l₀) (e : length m ≡ length l) (o : OneIn l m (used + n)) where
   this : slotAt l (used + n) ≡ slotAt l₀ (used + n)
-  this = s .rest (used + n) (omega arith)
+  this = s .rest (used + n) (omega arith) h
 
   row : boxAt l (used + n) ≡ boxAt l₀ (used + n)
   unfolding boxAt
@@ -103,7 +103,7 @@ module _ (l₀ : List ℕ) (used : ℕ) (l m : List ℕ) (n : ℕ) (s : Enters l
                   ∙ enter-ap row (s .all .rows x (λ j b. t j (omega arith)))
                   ∙ sym (enter-suc (λ j. boxAt l₀ (used + j)) (recordsIn l₀ used) n);
             };
-        rest = λ j b. o .rest j (omega arith) ∙ s .rest j (omega arith);
+        rest = λ j b g. o .rest j (omega arith) (omega (arith, s .len)) ∙ s .rest j (omega arith) g;
       }
 
 -- ---- a transaction's records, which stand behind the used slots
@@ -153,16 +153,10 @@ module _ (l m : List ℕ) (used k W : ℕ) (ins : List ℕ) (X : ℕ) (outs : Li
 
   -- the used slots are as they were, and so are the indexes
   old-slots : used + (countOf W ins + countOf X outs) ≤ boxSlots l → recordsIn m used ≡ recordsIn l used
-  old-slots h = records-ext l m used (λ i b. slot-ext l m i (λ a p x y. w .words i a p x (omega arith) (λ u v z. omega arith)))
+  old-slots h = records-ext l m used (λ i b. slot-ext l m i (λ p q. w .words p (λ j u v r. omega (arith, row-unique i j p q r))))
 
   old-index : length m ≡ length l → used + (countOf W ins + countOf X outs) ≤ boxSlots l → (c : ℕ) → c < 2 → Indexed l c used → Indexed m c used
-  old-index e h c q x =
-      indexed-same l m c used e
-      (w .words (boxSlots l) 1 (boxSlots l * 13 + 1) refl (omega arith) (λ u v z. omega arith))
-      (λ i b. w .words i (c * 4 + 3) (i * 13 + c * 4 + 3) (omega arith) (omega arith) (λ u v z. omega arith))
-      (λ i b. w .words i (9 + c) (i * 13 + 9 + c) (omega arith) (omega arith) (λ u v z. omega arith))
-      (λ b g. w .words b (11 + c) (b * 13 + 11 + c) (omega arith) (omega arith) (λ u v z. omega arith))
-      x
+  old-index e h c q x = indexed-before l m used (used + (countOf W ins + countOf X outs)) e h (w .words) c q x
 
   -- they have entered
   pub all-entered : (o : List ℕ) → length m ≡ length l → used + (countOf W ins + countOf X outs) ≤ boxSlots l → AllIn m o used (countOf W ins + countOf X outs) → ((c : ℕ) → c < 2 → Indexed l c used)

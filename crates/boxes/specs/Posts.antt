@@ -8,7 +8,7 @@ use lib.ListN.{length, getD, set, length-set}
 use lib.Seq.{getD-set-same, getD-set-other}
 use Rattle.boxes.specs.Records.{enterTx, dropOwner}
 use Rattle.boxes.specs.Entering.{length-enter}
-use Rattle.boxes.specs.Layout.{boxSlots, boxesRoom, BoxesOk, usedWord, slotsUsed, recordsIn, boxesOf, records-ext, records-none, records-few, used-none, used-some, no-boxes, slots-low, slots-high, room-slots}
+use Rattle.boxes.specs.Layout.{boxSlots, idPlace, linkPlace, headPlace, usedPlace, keyPlace, head-high, boxesRoom, BoxesOk, usedWord, slotsUsed, recordsIn, boxesOf, records-ext, records-none, records-few, used-none, used-some, no-boxes, slots-low, slots-high, room-slots}
 use Rattle.boxes.specs.Index.{Indexed, indexed-none, indexed-same, slot-ext, BoxesKept}
 use Rattle.boxes.specs.Leaving.{AllLeft}
 use Rattle.boxes.specs.Compacting.{Roomy}
@@ -36,26 +36,29 @@ nil-of (x ∷ xs) e = absurd (omega arith)
 
 module _ (l : List ℕ) (u : ℕ) (high : u ≤ boxSlots l) where
   abbrev pub told : List ℕ
-  told = set l (boxSlots l * 13) u
+  told = set l (usedPlace (boxSlots l)) u
 
   told-length : length told ≡ length l
-  told-length = length-set l (boxSlots l * 13) u
+  told-length = length-set l (usedPlace (boxSlots l)) u
+
+  other : (p : ℕ) → p < usedPlace (boxSlots l) → getD told p 0 ≡ getD l p 0
+  other p b = getD-set-other l (usedPlace (boxSlots l)) p u 0 (λ z. omega (arith, z))
 
   told-records : recordsIn told u ≡ recordsIn l u
-  told-records = records-ext l told u (λ i b. slot-ext l told i (λ a p x y. getD-set-other l (boxSlots l * 13) p u 0 (λ z. omega (arith, z))))
+  told-records = records-ext l told u (λ i b. slot-ext l told i (λ p q. other p (omega (arith, q .to))))
 
   told-index : (c : ℕ) → c < 2 → Indexed l c u → Indexed told c u
   told-index c q x =
       indexed-same l told c u told-length
-      (getD-set-other l (boxSlots l * 13) (boxSlots l * 13 + 1) u 0 (λ z. omega (arith, z)))
-      (λ i b. getD-set-other l (boxSlots l * 13) (i * 13 + c * 4 + 3) u 0 (λ z. omega (arith, z)))
-      (λ i b. getD-set-other l (boxSlots l * 13) (i * 13 + 9 + c) u 0 (λ z. omega (arith, z)))
-      (λ i b. getD-set-other l (boxSlots l * 13) (i * 13 + 11 + c) u 0 (λ z. omega (arith, z)))
+      (getD-set-other l (usedPlace (boxSlots l)) (keyPlace (boxSlots l)) u 0 (λ z. omega (arith, z)))
+      (λ i b. other (idPlace c i + 3) (omega arith))
+      (λ i b. other (linkPlace c i) (omega arith))
+      (λ b g. other (headPlace (boxSlots l) c b) (head-high (boxSlots l) c b g))
       x
 
   told-word : 0 < u → usedWord told ≡ u
   unfolding usedWord
-  told-word h = ap (λ (n : ℕ). getD told ((n - 2) / 13 * 13) 0) told-length ∙ getD-set-same l (boxSlots l * 13) u 0 (omega arith)
+  told-word h = ap (λ (n : ℕ). getD told (usedPlace ((n - 2) / 13)) 0) told-length ∙ getD-set-same l (usedPlace (boxSlots l)) u 0 (omega arith)
 
   module _ (r : ℕ) (low : r ≤ u) (count : length (recordsIn l u) ≡ r) (index : (c : ℕ) → c < 2 → Indexed l c u) where
     told-used : 0 < r → slotsUsed told r ≡ u
@@ -81,7 +84,7 @@ module _ (l : List ℕ) (u : ℕ) (high : u ≤ boxSlots l) where
 pub dropped-none : (l : List ℕ) (n k : ℕ) → n ≡ 0 → BoxesKept l n → Dropped l l n 0 k
 dropped-none l n k e x = rw e (record { words = refl; kept = rw e at x; rows = no-boxes l ∙ sym (ap (dropOwner k) (no-boxes l)) })
 
-pub dropped : (l a m : List ℕ) (n r k u : ℕ) → BoxesOk l n → u ≡ slotsUsed l n → length a ≡ length l → AllLeft l a u n r k → m ≡ set a (boxSlots a * 13) u → BoxesKept l n → Dropped l m n r k
+pub dropped : (l a m : List ℕ) (n r k u : ℕ) → BoxesOk l n → u ≡ slotsUsed l n → length a ≡ length l → AllLeft l a u n r k → m ≡ set a (usedPlace (boxSlots a)) u → BoxesKept l n → Dropped l m n r k
 unfolding boxesOf
 dropped l a m n r k u h e f s g x =
     rw g
@@ -113,7 +116,7 @@ pub record Behind (l m : List ℕ) (used n k : ℕ) (ins outs : List ℕ) : Type
   pub kept : ((c : ℕ) → c < 2 → Indexed l c used) → (r : ℕ) → r ≡ length (recordsIn l used) + n → r ≤ used + n → BoxesKept m r × (boxesOf m r ≡ enterTx k ins outs (recordsIn l used))
 
 pub behind : (l a o m : List ℕ) (used k W : ℕ) (ins : List ℕ) (X : ℕ) (outs : List ℕ) (n u : ℕ) → n ≡ countOf W ins + countOf X outs → used + (countOf W ins + countOf X outs) ≤ boxSlots l → length a ≡ length l → length o ≡ length a → WroteBoth l a used k W ins X outs
-    → AllIn a o used n → u ≡ used + n → m ≡ set o (boxSlots o * 13) u → Behind l m used (countOf W ins + countOf X outs) k (idsOf W ins) (idsOf X outs)
+    → AllIn a o used n → u ≡ used + n → m ≡ set o (usedPlace (boxSlots o)) u → Behind l m used (countOf W ins + countOf X outs) k (idsOf W ins) (idsOf X outs)
 behind l a o m used k W ins X outs n u d h e f w s g q = record { kept = λ x r c b. go x r c b (all-entered l a used k W ins X outs w o e h (rw d at s) x) }
   where
     go : ((c : ℕ) → c < 2 → Indexed l c used) → (r : ℕ) → r ≡ length (recordsIn l used) + (countOf W ins + countOf X outs) → r ≤ used + (countOf W ins + countOf X outs)

@@ -14,7 +14,7 @@ use Rattle.words.specs.Chains.{prev, prev-in, prev-gap, checked, checked-le, bo
 use Rattle.words.specs.declared.ids.Id.{Id}
 use Rattle.boxes.specs.Records.{index, lookup, isInput}
 use Rattle.boxes.specs.Lookup.{isEntry, lookup-none, lookup-first}
-use Rattle.boxes.specs.Layout.{boxSlots, BoxesOk, keyAt, keyWord, boxAt, rowsOf, slotsUsed, allRows, boxesOf, box-is, owner-is, entry-is, index-rows, slots-low, used-none}
+use Rattle.boxes.specs.Layout.{boxSlots, BoxesOk, idPlace, keyAt, keyWord, boxAt, rowsOf, slotsUsed, allRows, boxesOf, box-is, owner-is, entry-is, index-rows, slots-low, used-none}
 use Rattle.boxes.specs.Index.{lastAt, hashAt, linkAt, headAt, AllWords, Indexed, BoxesKept}
 use Rattle.boxes.specs.declared.links.Slot.{Slot}
 use Rattle.boxes.specs.declared.links.Slot.the-variants.{At, Nowhere}
@@ -69,7 +69,7 @@ pub same-hash : (l : List ℕ) (c : ℕ) (key : Id) → AllWords l → Words key
 unfolding keyAt idAt idOf hashAt lastAt AllWords
 same-hash l c key w wk j e =
     ap (λ (x : ℕ). bucketOf x (keyWord l) (boxSlots l))
-    (id-inj (wordsAt l (j * 13 + c * 4)) key (w (j * 13 + c * 4), w (j * 13 + c * 4 + 1), w (j * 13 + c * 4 + 2), w (j * 13 + c * 4 + 3)) wk e .3)
+    (id-inj (wordsAt l (idPlace c j)) key (w (idPlace c j), w (idPlace c j + 1), w (idPlace c j + 2), w (idPlace c j + 3)) wk e .3)
 
 -- v names a slot of the bucket before slot n, or none, and between v and n there is none of it
 pub record Reaches (l : List ℕ) (c : ℕ) (key : Id) (n v : ℕ) : Type 0 where

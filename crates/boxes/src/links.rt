@@ -12,11 +12,12 @@ ghost use mathlib.Core.Path.{_≡_};
 ghost use mathlib.Core.Bool.{_&&_};
 ghost use Prim.Native.Nat.{ℕ, _+_, _≤_, _<_};
 ghost use lib.Dec.{ltb};
+ghost use lib.ListN.{length};
 ghost use Rattle.words.specs.Ids.{idOf};
 ghost use Rattle.words.specs.Buckets.{bucketOf};
 ghost use Rattle.words.specs.Chains.{checked, bounded};
 ghost use Rattle.boxes.specs.Records.{index, lookup, isInput};
-ghost use Rattle.boxes.specs.Layout.{boxSlots, BoxesOk, keyWord, boxAt, boxesOf};
+ghost use Rattle.boxes.specs.Layout.{boxSlots, BoxesOk, headPlace, keyWord, boxAt, boxesOf};
 ghost use Rattle.boxes.specs.Index.{hashAt, linkAt, headAt, linkedIn, BoxesKept};
 ghost use Rattle.boxes.specs.declared.links.Slot.the-variants.{At};
 ghost use Rattle.boxes.specs.Searching.{ownersAt, InputAt, LastInput, Lasts};
@@ -53,8 +54,20 @@ pub(crate) fn bucket_at(s: &[u64], c: usize, i: usize) -> usize
     requires { ⌜ (c < 2) × (i < boxSlots (now s)) ⌝ }
     ensures { λ r. ⌜ (r ≡ hashAt (now (s .entry)) c i) × (r < boxSlots (now (s .entry))) ⌝ }
 {
-    let d = s[i * 13 + c * 4 + 3];
+    let d = s[i * 11 + c * 6 + 3];
     bucket_in(s, d)
+}
+
+// Where the head of bucket `b` stands: the heads by box are behind the slots, and behind them those by owner.
+fn head_place(s: &[u64], c: usize, b: usize) -> usize
+    requires { ⌜ b < boxSlots (now s) ⌝ }
+    ensures { λ r. ⌜ (r ≡ headPlace (boxSlots (now (s .entry))) c b) × (r < length (now (s .entry))) ⌝ }
+{
+    let n = slots(s);
+    if c == 0 {
+        return n * 11 + b;
+    }
+    n * 12 + b
 }
 
 // One more than the newest of the first n slots that is in bucket `b`, or 0.
@@ -62,7 +75,8 @@ pub(crate) fn head(s: &[u64], c: usize, n: usize, b: usize) -> usize
     requires { ⌜ (c < 2) × (n ≤ boxSlots (now s)) × (b < boxSlots (now s)) ⌝ }
     ensures { λ r. ⌜ r ≡ checked (hashAt (now (s .entry)) c) n b (headAt (now (s .entry)) c b) ⌝ }
 {
-    let w = index_of(s[b * 13 + 11 + c]);
+    let p = head_place(s, c, b);
+    let w = index_of(s[p]);
     if w == 0 {
         return 0;
     }
@@ -80,7 +94,7 @@ pub(crate) fn link(s: &[u64], c: usize, i: usize) -> usize
     requires { ⌜ (c < 2) × (i < boxSlots (now s)) ⌝ }
     ensures { λ r. ⌜ r ≡ bounded i (linkAt (now (s .entry)) c i) ⌝ }
 {
-    let w = index_of(s[i * 13 + 9 + c]);
+    let w = index_of(s[i * 11 + 5 + c * 5]);
     if i < w {
         return 0;
     }
@@ -96,8 +110,9 @@ pub(crate) fn link_in(s: &mut [u64], c: usize, n: usize)
     let h = head(s, c, n, b);
     let old = word_of(h);
     let new = word_of(n + 1);
-    s[n * 13 + 9 + c] = old;
-    s[b * 13 + 11 + c] = new;
+    let p = head_place(s, c, b);
+    s[n * 11 + 5 + c * 5] = old;
+    s[p] = new;
 }
 
 // The slot of the record that an index has for a box: of several, the oldest, so that the walk goes to the end of the chain. `best` is one more than

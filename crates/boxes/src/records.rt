@@ -25,7 +25,7 @@ ghost use mathlib.Core.Bool.{true, false};
 ghost use Prim.Native.Nat.{_+_, _-_, _≤_, _<_};
 ghost use Rattle.words.specs.Ids.{idOf};
 ghost use Rattle.boxes.specs.Flat.{countOf, idsOf};
-ghost use Rattle.boxes.specs.Layout.{boxSlots, boxesRoom, BoxesOk};
+ghost use Rattle.boxes.specs.Layout.{boxSlots, partSlots, boxesRoom, BoxesOk};
 ghost use Rattle.boxes.specs.Index.{BoxesKept};
 ghost use Rattle.boxes.specs.Leaving.{Left, AllLeft};
 ghost use Rattle.boxes.specs.Hiding.{Hid, Hidden};
@@ -133,7 +133,7 @@ fn make_room(s: &mut [u64], used: usize, needed: usize) -> usize
 
 // Writes the boxes of a list from slot `at` of the free part on, all live.
 fn write_list(free: &mut [u64], at: usize, owner: Id, out: bool, list: &[u64], width: usize)
-    requires { ⌜ at + countOf width (now list) ≤ boxSlots (now free) ⌝ }
+    requires { ⌜ at + countOf width (now list) ≤ partSlots (now free) ⌝ }
     requires { ⌜ 4 ≤ width ⌝ }
     ensures { λ _. ⌜ Wrote (now (free .entry)) (now (free .exit)) at (countOf width (now (list .entry))) (idOf owner) out width (now (list .entry)) ⌝ }
 {
@@ -155,7 +155,7 @@ fn write_records(
     outputs: &[u64],
     out_width: usize,
 )
-    requires { ⌜ countOf «in_width» (now inputs) + countOf «out_width» (now outputs) ≤ boxSlots (now free) ⌝ }
+    requires { ⌜ countOf «in_width» (now inputs) + countOf «out_width» (now outputs) ≤ partSlots (now free) ⌝ }
     requires { ⌜ (4 ≤ «in_width») × (4 ≤ «out_width») ⌝ }
     ensures { λ _. ⌜ WroteBoth (now (free .entry)) (now (free .exit)) 0 (idOf owner) «in_width» (now (inputs .entry)) «out_width» (now (outputs .entry)) ⌝ }
 {
@@ -178,7 +178,7 @@ fn write_behind(
     requires { ⌜ (4 ≤ «in_width») × (4 ≤ «out_width») ⌝ }
     ensures { λ _. ⌜ WroteBoth (now (s .entry)) (now (s .exit)) used (idOf owner) «in_width» (now (inputs .entry)) «out_width» (now (outputs .entry)) ⌝ }
 {
-    let from = used * 13;
+    let from = used * 11;
     write_records(&mut s[from..], owner, inputs, in_width, outputs, out_width);
 }
 

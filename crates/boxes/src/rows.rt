@@ -1,19 +1,19 @@
-// The words of the box records. A slot has thirteen: the box's id, the owner's id, the kind, the slot's link in the index of boxes and in that of
-// owners, and the heads of the bucket with the slot's number in both. Behind the slots stand how many of them are used, and the key of the
-// buckets. Only this file and links.rt know the layout.
+// The words of the box records. A slot has eleven: the box's id, the kind, the slot's link in the index of boxes, the owner's id, and its link in the
+// index of owners, so that what a search reads of a slot stands together. Behind the slots stand the heads of all buckets of boxes, those of
+// all buckets of owners, how many slots are used, and the key of the buckets. Only this file and links.rt know the layout.
 use words::ids::Id;
 use words::ids::load_id;
 use words::ids::put_id;
 use words::ids::same_id;
 ghost use mathlib.Core.Path.{_≡_};
-ghost use Prim.Native.Nat.{_+_, _*_, _<_};
+ghost use Prim.Native.Nat.{_<_};
 ghost use lib.Dec.{eqb};
 ghost use lib.ListN.{set};
 ghost use Rattle.words.specs.Lists.{pick};
 ghost use Rattle.words.specs.Ids.{idOf};
 ghost use Rattle.boxes.specs.Records.{isInput};
 ghost use Rattle.boxes.specs.Lookup.{isEntry};
-ghost use Rattle.boxes.specs.Layout.{boxSlots, boxesRoom, BoxesOk, keyAt, kindAt, slotOf, boxAt, slotAt, slotsUsed};
+ghost use Rattle.boxes.specs.Layout.{boxSlots, partSlots, boxesRoom, BoxesOk, kindPlace, usedPlace, keyAt, kindAt, slotOf, boxAt, slotAt, slotsUsed};
 ghost use Rattle.boxes.specs.Stores.{Put};
 
 // The kind of a live input is 0 and that of a live output is 1; a hidden input has 3, and a hidden output another number.
@@ -78,14 +78,14 @@ pub(crate) fn column_id(s: &[u64], c: usize, i: usize) -> Id
     requires { ⌜ (c < 2) × (i < boxSlots (now s)) ⌝ }
     ensures { λ r. ⌜ idOf r ≡ keyAt (now (s .entry)) c i ⌝ }
 {
-    load_id(s, i * 13 + c * 4)
+    load_id(s, i * 11 + c * 6)
 }
 
 pub(crate) fn kind_at(s: &[u64], i: usize) -> u64
     requires { ⌜ i < boxSlots (now s) ⌝ }
     ensures { λ r. ⌜ r ≡ kindAt (now (s .entry)) i ⌝ }
 {
-    s[i * 13 + 8]
+    s[i * 11 + 4]
 }
 
 // The box of the record in slot `i`.
@@ -150,28 +150,29 @@ pub(crate) fn live_kind(out: bool) -> u64
     if out { 1 } else { 0 }
 }
 
-// Whether it is an index's entry for a box.
+// Whether it is an index's entry for a box. The ids are compared first: of two that share a bucket alone they differ, which is foreseen, while the kind is
+// one or the other.
 pub(crate) fn is_entry(s: &[u64], i: usize, out: bool, key: Id) -> bool
     requires { ⌜ i < boxSlots (now s) ⌝ }
     ensures { λ r. ⌜ r ≡ isEntry out (idOf key) (boxAt (now (s .entry)) i) ⌝ }
 {
-    if kind_at(s, i) != live_kind(out) {
+    if !same_id(box_key(s, i), key) {
         return false;
     }
-    same_id(box_key(s, i), key)
+    kind_at(s, i) == live_kind(out)
 }
 
 // ---- what is written
 
-// Writes the record of slot `i`. The words of the indexes stay as they are.
+// Writes the record of slot `i` of a part that starts with a slot. The words of the indexes stay as they are.
 pub(crate) fn put_words(s: &mut [u64], i: usize, key: Id, owner: Id, kind: u64)
-    requires { ⌜ i < boxSlots (now s) ⌝ }
+    requires { ⌜ i < partSlots (now s) ⌝ }
     ensures { λ _. ⌜ Put (now (s .entry)) (now (s .exit)) i (slotOf (idOf key) (idOf owner) kind) ⌝ }
 {
-    let p = i * 13;
+    let p = i * 11;
     put_id(s, p, key);
-    put_id(s, p + 4, owner);
-    s[p + 8] = kind;
+    put_id(s, p + 6, owner);
+    s[p + 4] = kind;
 }
 
 // The record in slot `from`, written to slot `to` too.
@@ -188,26 +189,26 @@ pub(crate) fn move_box(s: &mut [u64], from: usize, to: usize)
 // Slot `i` is free to be used again. It stays in its chains.
 pub(crate) fn vacate_box(s: &mut [u64], i: usize)
     requires { ⌜ i < boxSlots (now s) ⌝ }
-    ensures { λ _. ⌜ now (s .exit) ≡ set (now (s .entry)) (i * 13 + 8) 2 ⌝ }
+    ensures { λ _. ⌜ now (s .exit) ≡ set (now (s .entry)) (kindPlace i) 2 ⌝ }
 {
-    s[i * 13 + 8] = GONE;
+    s[i * 11 + 4] = GONE;
 }
 
 // The record in slot `i` is no more an index's entry. It stays in its chains.
 pub(crate) fn hide_box(s: &mut [u64], i: usize, out: bool)
     requires { ⌜ i < boxSlots (now s) ⌝ }
-    ensures { λ _. ⌜ now (s .exit) ≡ set (now (s .entry)) (i * 13 + 8) (pick out 4 3) ⌝ }
+    ensures { λ _. ⌜ now (s .exit) ≡ set (now (s .entry)) (kindPlace i) (pick out 4 3) ⌝ }
 {
     if out {
-        s[i * 13 + 8] = HIDDEN_OUTPUT;
+        s[i * 11 + 4] = HIDDEN_OUTPUT;
     } else {
-        s[i * 13 + 8] = HIDDEN_INPUT;
+        s[i * 11 + 4] = HIDDEN_INPUT;
     }
 }
 
 // So many slots are used.
 pub(crate) fn put_used(s: &mut [u64], used: usize)
-    ensures { λ _. ⌜ now (s .exit) ≡ set (now (s .entry)) (boxSlots (now (s .entry)) * 13) used ⌝ }
+    ensures { λ _. ⌜ now (s .exit) ≡ set (now (s .entry)) (usedPlace (boxSlots (now (s .entry)))) used ⌝ }
 {
     let at = slots(s) * 13;
     let w = word_of(used);

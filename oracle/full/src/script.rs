@@ -780,22 +780,22 @@ impl<'a> Script<'a> {
     }
 }
 
-/// The place of a word in a table: at times any, mostly one of a slot that was used, of the index, of the order, or one of the last.
+/// The place of a word in a table: at times any, mostly one of a slot that was used, of the index, of a column, or one of the last.
 fn some_word(rng: &mut Rng, layout: &Layout, table: &[u64], used: usize) -> usize {
     let (slots, words) = (layout.slots(table.len()), table.len());
     let near = rng.below(used as u64) as usize;
     let any = rng.below(slots as u64) as usize;
-    let of_index = layout.index.start + rng.below(layout.index.len() as u64) as usize;
+    let of_index = rng.pick(layout.index);
     match rng.below(8) {
         0 => rng.below(words as u64) as usize,
         1 => words - 1 - rng.below(2) as usize,
-        2 => (layout.slot * slots + near * layout.order).min(words - 1),
+        2 => (layout.slot * slots + near * layout.columns).min(words - 1),
         3 => layout.slot * any + of_index,
         4 => layout.slot * near + of_index,
         5 if !layout.heads.is_empty() => {
             let (last, head) = rng.pick(layout.heads);
             let bucket = bucket_of(table[layout.slot * near + last], table[words - 1], slots as u64);
-            layout.slot * bucket as usize + head
+            layout.head(head, slots, bucket as usize)
         }
         _ => layout.slot * near + rng.below(layout.slot as u64) as usize,
     }

@@ -6,40 +6,55 @@ use oracle::forms::{Id, Return, Settings, Tx, Verdict};
 
 // The tables, in words of 64 bits. How many records a table holds follows from the length of the slice that is lent: a slice of `entries_words(n)` words holds n
 // entries, and so on. Each of the first three has S slots, as many buckets of ids, and behind the slots a word of its own and the key of the buckets, which is the
-// last word. A head belongs to the bucket that has the slot's number.
+// last word. A head that stands in a slot belongs to the bucket that has the slot's number.
 //
 // entries: S slots for S entries, 17 words each: id (4), weight, base, size, cost, whether its cost was measured, the measured cost, created, last checked, height
 // key, number of inputs, whether the slot is in use, link, head; S words of order, which name the slot of each rank; how many slots are known; the key.
-// boxes: S slots for S * 4 / 5 records, 13 words each, in order of entry: id of the box (4), id of its owner (4), kind (0 an input, 1 an output, 2 vacated, 3 a hidden
-// input, others a hidden output), links among boxes and among owners, heads of both; how many slots are used; the key.
+// boxes: S slots for S * 4 / 5 records, 11 words each, in order of entry: id of the box (4), kind (0 an input, 1 an output, 2 vacated, 3 a hidden input, others a
+// hidden output), link among boxes, id of its owner (4), link among owners; S heads of buckets of boxes; S of buckets of owners; how many slots are used; the key.
 // cache: S slots for S * 4 / 5 ids, 7 words each, oldest first: id (4), since, link, head; the first slot that is held; the key.
 // peers: 2 words for each: peer, sum.
+
+/// Where the head of a bucket stands: at a word of the slot with the bucket's number, or in a column behind all slots.
+#[derive(Clone, Copy)]
+pub enum Head {
+    In(usize),
+    Behind(usize),
+}
 
 /// How a table's words lie.
 pub struct Layout {
     /// The words of a slot, and which of them are the index's; of a box record its kind too.
     pub slot: usize,
-    pub index: std::ops::Range<usize>,
-    /// Of each of its ids the last word, and the head of a bucket of such ids.
-    pub heads: &'static [(usize, usize)],
-    /// Words of order behind the slots, for each of them.
-    pub order: usize,
+    pub index: &'static [usize],
+    /// Of each of its ids the last word, and the heads of buckets of such ids.
+    pub heads: &'static [(usize, Head)],
+    /// Columns behind the slots, of a word for each of them: the order, or heads.
+    pub columns: usize,
     /// Words behind all others.
     pub last: usize,
 }
 
-pub const ENTRIES: Layout = Layout { slot: 17, index: 14..17, heads: &[(3, 16)], order: 1, last: 2 };
-pub const BOXES: Layout = Layout { slot: 13, index: 8..13, heads: &[(3, 11), (7, 12)], order: 0, last: 2 };
-pub const CACHE: Layout = Layout { slot: 7, index: 5..7, heads: &[(3, 6)], order: 0, last: 2 };
-pub const PEER_RECORDS: Layout = Layout { slot: PEER_WORDS, index: 0..0, heads: &[], order: 0, last: 0 };
+pub const ENTRIES: Layout = Layout { slot: 17, index: &[14, 15, 16], heads: &[(3, Head::In(16))], columns: 1, last: 2 };
+pub const BOXES: Layout = Layout { slot: 11, index: &[4, 5, 10], heads: &[(3, Head::Behind(0)), (9, Head::Behind(1))], columns: 2, last: 2 };
+pub const CACHE: Layout = Layout { slot: 7, index: &[5, 6], heads: &[(3, Head::In(6))], columns: 0, last: 2 };
+pub const PEER_RECORDS: Layout = Layout { slot: PEER_WORDS, index: &[0], heads: &[], columns: 0, last: 0 };
 
 impl Layout {
     pub const fn words(&self, slots: usize) -> usize {
-        slots * (self.slot + self.order) + self.last
+        slots * (self.slot + self.columns) + self.last
     }
 
     pub const fn slots(&self, words: usize) -> usize {
-        words.saturating_sub(self.last) / (self.slot + self.order)
+        words.saturating_sub(self.last) / (self.slot + self.columns)
+    }
+
+    /// The place of a bucket's head, in a table of so many slots.
+    pub const fn head(&self, head: Head, slots: usize, bucket: usize) -> usize {
+        match head {
+            Head::In(word) => self.slot * bucket + word,
+            Head::Behind(column) => (self.slot + column) * slots + bucket,
+        }
     }
 }
 
@@ -59,7 +74,11 @@ pub const fn bucket_of(d: u64, key: u64, buckets: u64) -> u64 {
     const FACTORS: u64 = 1 << 31;
     let a = (key % FACTORS + 1_540_483_477) % FACTORS;
     let b = (key / FACTORS % FACTORS + 461_845_907) % FACTORS;
-    (((d % (1 << 32)) * a + (d >> 32) * b) >> 32) % buckets
+    let x = ((d % (1 << 32)) * a + (d >> 32) * b) >> 32;
+    if buckets < 1 << 32 {
+        return (x * buckets) >> 32;
+    }
+    x % buckets
 }
 
 /// The words of a table of so many entries.

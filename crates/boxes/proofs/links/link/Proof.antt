@@ -11,11 +11,14 @@ mul-index-of c = search needs
 add-index-of : tie.Need-add-index-of
 add-index-of c = search needs
 
+mul-index-of-2 : tie.Need-mul-index-of-2
+mul-index-of-2 c = search needs
+
 add-index-of-2 : tie.Need-add-index-of-2
 add-index-of-2 c = search needs
 
-mul-index-of-2 : tie.Need-mul-index-of-2
-mul-index-of-2 c = search needs
+mul-index-of-3 : tie.Need-mul-index-of-3
+mul-index-of-3 c = search needs
 
 shared-slice-read-index-of : tie.Need-shared-slice-read-index-of
 shared-slice-read-index-of c = search needs
@@ -37,8 +40,9 @@ link-spec =
     (tie.spec
     mul-index-of
     add-index-of
-    add-index-of-2
     mul-index-of-2
+    add-index-of-2
+    mul-index-of-3
     shared-slice-read-index-of
     index-of-requires
     returns

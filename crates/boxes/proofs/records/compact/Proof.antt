@@ -41,7 +41,7 @@ loop-less-2 : tie.Need-loop-less-2 Inv-loop μ-loop
 loop-less-2 c = omega arith
 
 loop-again-2 : tie.Need-loop-again-2 Inv-loop μ-loop
-loop-again-2 c = moves-kept _ _ _ _ _ (c .before .before .before .before .before .before .before .before .loop .inv) (omega arith) _ (c .before .before .move-in .kept .0) (sym (c .before .before .before .before .before .is-gone .ensures) ∙ c .before .before .before .before .if1 .left) (c .before .before .move-in .ensures)
+loop-again-2 c = moves-kept _ _ _ _ _ (c .before .before .before .before .before .before .before .before .loop .inv) (omega arith) _ (omega (arith, c .before .before .before .before .before .before .before .before .loop .inv .len)) (c .before .before .move-in .kept .0) (sym (c .before .before .before .before .before .is-gone .ensures) ∙ c .before .before .before .before .if1 .left) (c .before .before .move-in .ensures)
 
 same-length : tie.Need-same-length Inv-loop μ-loop
 same-length c = c .before .loop .inv .len

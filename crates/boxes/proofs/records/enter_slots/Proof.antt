@@ -28,7 +28,7 @@ loop-less : tie.Need-loop-less Inv-loop μ-loop
 loop-less c = omega arith
 
 loop-again : tie.Need-loop-again Inv-loop μ-loop
-loop-again c = (omega arith, enters-more _ _ _ _ _ (c .before .before .before .before .before .loop .inv .1) (c .before .before .enter-slot .kept .0) (c .before .before .enter-slot .ensures))
+loop-again c = (omega arith, enters-more _ _ _ _ _ (c .before .before .before .before .before .loop .inv .1) (omega arith) (c .before .before .enter-slot .kept .0) (c .before .before .enter-slot .ensures))
 
 same-length : tie.Need-same-length Inv-loop μ-loop
 same-length c = c .before .loop .inv .1 .len

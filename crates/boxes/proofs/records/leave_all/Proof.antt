@@ -45,7 +45,7 @@ same-length c = c .before .loop .inv .len
 
 returns : tie.Need-returns Inv-loop μ-loop
 unfolding AllWords
-returns c = leaves-end (c .before .before .before .before .before .before .args .s .now) (c .before .before .before .before .before .before .args .used) (c .before .before .before .before .before .before .args .n) (c .before .before .before .before .before .before .args .owner) (λ i. omega (arith, c .before .before .before .before .before .slice-known .given i)) (omega arith) _ (c .before .loop .r) (c .before .loop .v) (c .before .loop .inv) (c .loop-test .left)
+returns c = leaves-end (c .before .before .before .before .before .before .args .s .now) (c .before .before .before .before .before .before .args .used) (c .before .before .before .before .before .before .args .n) (c .before .before .before .before .before .before .args .owner) (λ i. omega (arith, c .before .before .before .before .before .slice-known .given i)) (omega arith) _ (c .before .loop .r) (c .before .loop .v) (c .before .before .before .before .before .before .pre .1) (c .before .loop .inv) (c .loop-test .left)
 
 pub leave-all-spec : {M : Type 1} → statement M
 leave-all-spec =
