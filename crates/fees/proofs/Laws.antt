@@ -20,7 +20,7 @@ use Rattle.stats.specs.Stats.{feeIn, waitIn}
 use Rattle.entries.specs.Entries.{Entry}
 use Rattle.entries.specs.Layout.{entryAt, entriesOf, entriesRoom, entries}
 use Rattle.fees.specs.Fees.{atLeast, recommendedIn, above, expectedIn, Bin, bin, noBin, binOf, more, addTo, binned, Histogram, histogram, noHistogram, histogramOf}
-use Rattle.fees.specs.Bins.{binDec, binAt, binsOf, bins, Put, Laid, Drawn}
+use Rattle.fees.specs.Bins.{Bounds, binDec, binAt, binsOf, bins, Put, Laid, Drawn}
 
 -- ---- a fee for a wait
 
@@ -126,8 +126,8 @@ module _ (bins longest wait : ℕ) where
   pub bin-last : longest ≤ wait → (r : ℕ) → r ≡ bins → r ≡ binOf bins longest wait
   bin-last h r e = rw (le-ltb _ _ h) e
 
-  pub bin-within : wait < longest → (r : ℕ) → r ≡ min (wait / (longest / bins)) bins → r ≡ binOf bins longest wait
-  bin-within h r e = rw (lt-ltb _ _ h) e
+  pub bin-within : (interval : ℕ) → Bounds bins longest interval → wait < longest → (r : ℕ) → r ≡ min (wait / interval) bins → r ≡ binOf bins longest wait
+  bin-within interval b h r e = rw (lt-ltb _ _ h, ← b .is) e
 
   pub bin-most : binOf bins longest wait ≤ bins
   bin-most = go (ltb wait longest)
@@ -136,9 +136,9 @@ module _ (bins longest wait : ℕ) where
       go true = omega arith
       go false = omega arith
 
-  -- the interval is not 0
-  pub some-interval : 0 < bins → bins ≤ longest → 0 < longest / bins
-  some-interval p h = le-div-iff-mul-le p .1 (omega arith)
+-- the interval is not 0
+pub some-interval : (bins longest interval : ℕ) → Bounds bins longest interval → 0 < interval
+some-interval bins longest interval b = rw (b .is) (le-div-iff-mul-le (b .some) .1 (omega (arith, b .enough)))
 
 -- ---- entries counted one by one
 

@@ -24,7 +24,7 @@ ghost use Rattle.words.specs.Sums.{quotientOf};
 ghost use Rattle.pool_types.specs.Outcomes.{numberOf};
 ghost use Rattle.entries.specs.Layout.{EntriesOk, entryAt, entriesOf};
 ghost use Rattle.fees.specs.Fees.{atLeast, recommendedIn, recommended, above, expectedIn, expectedWait, bin, noBin, binOf, more, addTo, binned, histogramOf};
-ghost use Rattle.fees.specs.Bins.{binAt, binsOf, Put, Laid, Drawn};
+ghost use Rattle.fees.specs.Bins.{Bounds, binAt, binsOf, Put, Laid, Drawn};
 
 // Largest size of a transaction.
 const MAX_TRANSACTION_SIZE: u32 = 98304;
@@ -174,14 +174,14 @@ fn clear_bins(answer: &mut [u64], n: usize)
 }
 
 // The bin of a wait. Short of `longest` the quotient can still pass `bins`, where `longest` is no multiple of it.
-fn bin_of(bins: u64, longest: u64, wait: u64) -> u64
-    requires { ⌜ (0 < bins) × (bins ≤ longest) ⌝ }
+fn bin_of(bins: u64, longest: u64, interval: u64, wait: u64) -> u64
+    requires { ⌜ Bounds bins longest interval ⌝ }
     ensures { λ r. ⌜ r ≡ binOf bins longest wait ⌝ }
 {
     if longest <= wait {
         return bins;
     }
-    let i = wait / (longest / bins);
+    let i = wait / interval;
     if i < bins { i } else { bins }
 }
 
@@ -196,27 +196,36 @@ fn add_to(answer: &mut [u64], i: usize, base: u64)
 }
 
 // Counts entry i in the bin of its wait.
-fn add_entry(entries: &[u64], answer: &mut [u64], i: usize, time: u64, bins: u32, longest: u64)
+fn add_entry(
+    entries: &[u64],
+    answer: &mut [u64],
+    i: usize,
+    time: u64,
+    bins: u32,
+    longest: u64,
+    interval: u64,
+)
     requires { ⌜ EntriesOk (now entries) (i + 1) ⌝ }
     requires { ⌜ (bins + 1) * 2 ≤ length (now answer) ⌝ }
-    requires { ⌜ (0 < bins) × (bins ≤ longest) ⌝ }
+    requires { ⌜ Bounds bins longest interval ⌝ }
     ensures { λ _. ⌜ Laid (now (answer .entry)) (now (answer .exit)) (bins + 1) (addTo (binsOf (now (answer .entry)) (bins + 1)) (binOf bins longest (time - entryAt (now (entries .entry)) i .created)) (entryAt (now (entries .entry)) i .base)) ⌝ }
 {
     let wait = saturating_sub(time, created_at(entries, i));
-    let at = bin_of(bins as u64, longest, wait);
+    let at = bin_of(bins as u64, longest, interval, wait);
     add_to(answer, at as usize, base_at(entries, i));
 }
 
-// Counts the first n entries.
+// Counts the first n entries. The bins' interval is divided out once for all.
 fn add_entries(entries: &[u64], n: usize, answer: &mut [u64], time: u64, bins: u32, longest: u64)
     requires { ⌜ EntriesOk (now entries) n ⌝ }
     requires { ⌜ (bins + 1) * 2 ≤ length (now answer) ⌝ }
     requires { ⌜ (0 < bins) × (bins ≤ longest) ⌝ }
     ensures { λ _. ⌜ Laid (now (answer .entry)) (now (answer .exit)) (bins + 1) (binned bins longest time (entriesOf (now (entries .entry)) n) (binsOf (now (answer .entry)) (bins + 1))) ⌝ }
 {
+    let interval = longest / bins as u64;
     let mut i = 0;
     while i < n {
-        add_entry(entries, answer, i, time, bins, longest);
+        add_entry(entries, answer, i, time, bins, longest, interval);
         i += 1;
     }
 }
