@@ -1,8 +1,7 @@
 // The fee queries: what to pay for a wait, how long a fee will wait, and how long the pool has waited so far. They change nothing but the
 // answer buffer.
-use entries::fields::base_at;
-use entries::fields::created_at;
 use entries::fields::entries_room;
+use entries::fields::since_at;
 use entries::fields::weight_at;
 use pool_types::ListOutcome;
 use pool_types::Mempool;
@@ -210,9 +209,10 @@ fn add_entry(
     requires { ⌜ Bounds bins longest interval ⌝ }
     ensures { λ _. ⌜ Laid (now (answer .entry)) (now (answer .exit)) (bins + 1) (addTo (binsOf (now (answer .entry)) (bins + 1)) (binOf bins longest (time - entryAt (now (entries .entry)) i .created)) (entryAt (now (entries .entry)) i .base)) ⌝ }
 {
-    let wait = saturating_sub(time, created_at(entries, i));
+    let since = since_at(entries, i);
+    let wait = saturating_sub(time, since.created);
     let at = bin_of(bins as u64, longest, interval, wait);
-    add_to(answer, at as usize, base_at(entries, i));
+    add_to(answer, at as usize, since.base);
 }
 
 // Counts the first n entries. The bins' interval is divided out once for all.
