@@ -3,7 +3,7 @@
 use words::ids::Id;
 use words::ids::load_id;
 ghost use mathlib.Core.Path.{_≡_};
-ghost use Prim.Native.Nat.{_+_, _≤_, _<_};
+ghost use Prim.Native.Nat.{_+_, _*_, _≤_, _<_};
 ghost use Rattle.words.specs.Ids.{idOf};
 ghost use Rattle.entries.specs.Cells.{slotCount, slotWords, Stands, cell, rawAt, putCell, putRaw, knownOf, slotOf, idIn};
 
@@ -46,29 +46,28 @@ pub(crate) fn put(s: &mut [u64], i: usize, a: usize, v: u64)
     s[i * SLOT + a] = v;
 }
 
+// Where the word of rank `r` stands.
+pub(crate) fn place(s: &[u64], r: usize) -> usize
+    requires { ⌜ Stands (now s) r ⌝ }
+    ensures { λ x. ⌜ x ≡ slotCount (now (s .entry)) * slotWords + r ⌝ }
+{
+    slots(s) * SLOT + r
+}
+
 // The word of rank `r`.
 pub(crate) fn raw(s: &[u64], r: usize) -> u64
     requires { ⌜ Stands (now s) r ⌝ }
     ensures { λ x. ⌜ x ≡ rawAt (now (s .entry)) r ⌝ }
 {
-    s[slots(s) * SLOT + r]
+    s[place(s, r)]
 }
 
 pub(crate) fn put_raw(s: &mut [u64], r: usize, v: u64)
     requires { ⌜ Stands (now s) r ⌝ }
     ensures { λ _. ⌜ now (s .exit) ≡ putRaw (now (s .entry)) r v ⌝ }
 {
-    let p = slots(s) * SLOT + r;
+    let p = place(s, r);
     s[p] = v;
-}
-
-// The word of rank `from` is rank `to`'s too. It moves as it is.
-pub(crate) fn move_raw(s: &mut [u64], from: usize, to: usize)
-    requires { ⌜ (from < slotCount (now s)) × (to < slotCount (now s)) ⌝ }
-    ensures { λ _. ⌜ now (s .exit) ≡ putRaw (now (s .entry)) to (rawAt (now (s .entry)) from) ⌝ }
-{
-    let p = slots(s) * SLOT;
-    s[p + to] = s[p + from];
 }
 
 // How many slots are known where n are in use. A word that says too little or too much is not believed, nor is any where none is in use.

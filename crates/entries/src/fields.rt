@@ -102,6 +102,22 @@ pub fn created_at(s: &[u64], i: usize) -> u64
     word_at(s, i, 10)
 }
 
+// When an entry came, and its base: what a histogram asks of every entry. Its slot is looked up once.
+pub struct Since {
+    pub created: u64,
+    pub base: u64,
+}
+
+pub fn since_at(s: &[u64], i: usize) -> Since
+    requires { ⌜ EntriesOk (now s) (i + 1) ⌝ }
+    ensures { λ r. ⌜ (r .created ≡ entryAt (now (s .entry)) i .created) × (r .base ≡ entryAt (now (s .entry)) i .base) ⌝ }
+{
+    let k = slot_at(s, i);
+    let created = get(s, k, 10);
+    let base = get(s, k, 5);
+    Since { created, base }
+}
+
 pub fn last_checked_at(s: &[u64], i: usize) -> u64
     requires { ⌜ EntriesOk (now s) (i + 1) ⌝ }
     ensures { λ r. ⌜ r ≡ entryAt (now (s .entry)) i .lastChecked ⌝ }

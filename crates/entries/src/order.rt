@@ -2,19 +2,19 @@
 use crate::cells::WEIGHT;
 use crate::cells::get;
 use crate::cells::id_in;
-use crate::cells::move_raw;
-use crate::cells::put_raw;
-use crate::cells::raw;
+use crate::cells::place;
 use crate::cells::slot_at;
 use words::ids::Id;
 use words::ids::less_id;
 ghost use mathlib.Core.Path.{_≡_};
-ghost use Prim.Native.Nat.{ℕ, _+_, _≤_, _<_};
+ghost use Prim.Native.Nat.{ℕ, _+_, _-_, _≤_, _<_};
+ghost use lib.ListN.{length};
 ghost use Rattle.words.specs.Ids.{idOf};
 ghost use Rattle.entries.specs.Cells.{slotCount, entryAt};
 ghost use Rattle.entries.specs.Ranks.{aheadOf, Ranks};
 ghost use Rattle.entries.specs.Turns.{inward, outward};
 ghost use Rattle.entries.specs.Held.{Turned};
+ghost use Rattle.entries.specs.Turning.{Shifted};
 
 // Whether the entry at rank `r` is ahead of a weight and an id, which is read only on a tie.
 fn is_ahead(s: &[u64], r: usize, weight: u64, id: Id) -> bool
@@ -47,19 +47,46 @@ pub(crate) fn rank(s: &[u64], n: usize, weight: u64, id: Id) -> usize
     lo
 }
 
+// The last word becomes the first: the others move back by one. Over a slice that starts where the words do, such a loop is one move of memory.
+fn words_in(t: &mut [u64])
+    requires { ⌜ 0 < length (now t) ⌝ }
+    ensures { λ _. ⌜ Shifted (now (t .entry)) (now (t .exit)) (inward 0 (length (now (t .entry)) - 1)) ⌝ }
+{
+    let last = t.len() - 1;
+    let hold = t[last];
+    let mut i = last;
+    while 0 < i {
+        let hole = i;
+        i -= 1;
+        t[hole] = t[i];
+    }
+    t[0] = hold;
+}
+
+// The first word becomes the last: the others move forward by one.
+fn words_out(t: &mut [u64])
+    requires { ⌜ 0 < length (now t) ⌝ }
+    ensures { λ _. ⌜ Shifted (now (t .entry)) (now (t .exit)) (outward 0 (length (now (t .entry)) - 1)) ⌝ }
+{
+    let last = t.len() - 1;
+    let hold = t[0];
+    let mut i = 0;
+    while i < last {
+        let hole = i;
+        i += 1;
+        t[hole] = t[i];
+    }
+    t[last] = hold;
+}
+
 // The last rank becomes rank `at`: those from there on move down by one.
 pub(crate) fn turn_in(s: &mut [u64], at: usize, last: usize)
     requires { ⌜ (at ≤ last) × (last < slotCount (now s)) ⌝ }
     ensures { λ _. ⌜ Turned (now (s .entry)) (now (s .exit)) (inward at last) ⌝ }
 {
-    let hold = raw(s, last);
-    let mut i = last;
-    while at < i {
-        let hole = i;
-        i -= 1;
-        move_raw(s, i, hole);
-    }
-    put_raw(s, at, hold);
+    let a = place(s, at);
+    let e = place(s, last) + 1;
+    words_in(&mut s[a..e]);
 }
 
 // Rank `at` becomes the last: those behind it move up by one.
@@ -67,12 +94,7 @@ pub(crate) fn turn_out(s: &mut [u64], at: usize, last: usize)
     requires { ⌜ (at ≤ last) × (last < slotCount (now s)) ⌝ }
     ensures { λ _. ⌜ Turned (now (s .entry)) (now (s .exit)) (outward at last) ⌝ }
 {
-    let hold = raw(s, at);
-    let mut i = at;
-    while i < last {
-        let next = i + 1;
-        move_raw(s, next, i);
-        i = next;
-    }
-    put_raw(s, last, hold);
+    let a = place(s, at);
+    let e = place(s, last) + 1;
+    words_out(&mut s[a..e]);
 }

@@ -16,22 +16,21 @@ use Rattle.words.specs.Tables.{put-end, of-none, of-suc}
 use Rattle.pool_types.specs.declared.Mempool.{Mempool}
 use Rattle.pool_types.specs.Outcomes.{refused, number, wrote, listedOf}
 use Rattle.pool_types.specs.declared.ListOutcome.the-variants.{Listed, NotListed}
-use Rattle.stats.specs.Stats.{feeForWait, waitFor}
-use Rattle.stats.specs.declared.FeeStats.{FeeStats}
+use Rattle.stats.specs.Stats.{feeIn, waitIn}
 use Rattle.entries.specs.Entries.{Entry}
 use Rattle.entries.specs.Layout.{entryAt, entriesOf, entriesRoom, entries}
-use Rattle.fees.specs.Fees.{atLeast, recommended, above, expectedWait, Bin, bin, noBin, binOf, more, addTo, binned, Histogram, histogram, noHistogram, histogramOf}
-use Rattle.fees.specs.Bins.{binDec, binAt, binsOf, bins, Put, Laid, Drawn}
+use Rattle.fees.specs.Fees.{atLeast, recommendedIn, above, expectedIn, Bin, bin, noBin, binOf, more, addTo, binned, Histogram, histogram, noHistogram, histogramOf}
+use Rattle.fees.specs.Bins.{Bounds, binDec, binAt, binsOf, bins, Put, Laid, Drawn}
 
 -- ---- a fee for a wait
 
-module _ (s : FeeStats) (st : Mempool) (minutes size : ℕ) where
-  pub fee-refused : 98304 < size → refused 3 0 ≡ recommended s st minutes size
-  unfolding recommended
+module _ (counts totals : List ℕ) (least minutes size : ℕ) where
+  pub fee-refused : 98304 < size → refused 3 0 ≡ recommendedIn counts totals least minutes size
+  unfolding recommendedIn
   fee-refused h = rw (lt-ltb _ _ h)
 
-  pub fee-given : (r : ℕ) → size ≤ 98304 → r ≡ atLeast (st .config .«min_fee») (feeForWait s minutes size) → number r ≡ recommended s st minutes size
-  unfolding recommended
+  pub fee-given : (r : ℕ) → size ≤ 98304 → r ≡ atLeast least (feeIn counts totals minutes size) → number r ≡ recommendedIn counts totals least minutes size
+  unfolding recommendedIn
   fee-given r h e = rw (le-ltb _ _ h, e)
 
 -- ---- a wait for a fee
@@ -64,24 +63,24 @@ counted-few e w n i c = omega (arith, above-few w (entriesOf e i), entries .len 
 pub counted-all : (e : List ℕ) (w n i m : ℕ) → i ≡ m → Counted e w n i → n ≡ above w (entriesOf e m)
 counted-all e w n i m q c = rw (← q) (c .count)
 
-module _ (e : List ℕ) (s : FeeStats) (st : Mempool) (time fee size : ℕ) where
-  pub wait-entries : entriesRoom e < st .counts .pooled → refused 1 0 ≡ expectedWait e s st time fee size
-  unfolding expectedWait
+module _ (e : List ℕ) (pooled start taken time fee size : ℕ) where
+  pub wait-entries : entriesRoom e < pooled → refused 1 0 ≡ expectedIn e pooled start taken time fee size
+  unfolding expectedIn
   wait-entries h = rw (lt-leb _ _ h)
 
-  module _ (h : st .counts .pooled ≤ entriesRoom e) where
-    pub wait-none : size ≡ 0 → refused 3 0 ≡ expectedWait e s st time fee size
-    unfolding expectedWait
+  module _ (h : pooled ≤ entriesRoom e) where
+    pub wait-none : size ≡ 0 → refused 3 0 ≡ expectedIn e pooled start taken time fee size
+    unfolding expectedIn
     wait-none z = rw (le-leb _ _ h, eq-eqb size 0 z)
 
-    pub wait-large : 0 < size → 98304 < size → refused 3 0 ≡ expectedWait e s st time fee size
-    unfolding expectedWait
+    pub wait-large : 0 < size → 98304 < size → refused 3 0 ≡ expectedIn e pooled start taken time fee size
+    unfolding expectedIn
     wait-large p g = let z : size ≡ 0 → ⊥ = omega arith in rw (le-leb _ _ h, ne-eqb size 0 z, lt-ltb _ _ g)
 
-    pub wait-given : 0 < size → size ≤ 98304 → (w n r : ℕ) → w ≡ quotientOf (fee * 1024) size → n ≡ above w (entriesOf e (st .counts .pooled)) → r ≡ waitFor 60000 s time n
-        → number r ≡ expectedWait e s st time fee size
-    unfolding expectedWait
-    wait-given p g w n r a b d = let z : size ≡ 0 → ⊥ = omega arith in ap number (d ∙ ap (waitFor 60000 s time) (b ∙ ap (λ v. above v (entriesOf e (st .counts .pooled))) a)) ∙ rw (le-leb _ _ h, ne-eqb size 0 z, le-ltb _ _ g)
+    pub wait-given : 0 < size → size ≤ 98304 → (w n r : ℕ) → w ≡ quotientOf (fee * 1024) size → n ≡ above w (entriesOf e pooled) → r ≡ waitIn 60000 start taken time n
+        → number r ≡ expectedIn e pooled start taken time fee size
+    unfolding expectedIn
+    wait-given p g w n r a b d = let z : size ≡ 0 → ⊥ = omega arith in ap number (d ∙ ap (waitIn 60000 start taken time) (b ∙ ap (λ v. above v (entriesOf e pooled)) a)) ∙ rw (le-leb _ _ h, ne-eqb size 0 z, le-ltb _ _ g)
 
 -- ---- bins in words
 
@@ -127,8 +126,8 @@ module _ (bins longest wait : ℕ) where
   pub bin-last : longest ≤ wait → (r : ℕ) → r ≡ bins → r ≡ binOf bins longest wait
   bin-last h r e = rw (le-ltb _ _ h) e
 
-  pub bin-within : wait < longest → (r : ℕ) → r ≡ min (wait / (longest / bins)) bins → r ≡ binOf bins longest wait
-  bin-within h r e = rw (lt-ltb _ _ h) e
+  pub bin-within : (interval : ℕ) → Bounds bins longest interval → wait < longest → (r : ℕ) → r ≡ min (wait / interval) bins → r ≡ binOf bins longest wait
+  bin-within interval b h r e = rw (lt-ltb _ _ h, ← b .is) e
 
   pub bin-most : binOf bins longest wait ≤ bins
   bin-most = go (ltb wait longest)
@@ -137,9 +136,9 @@ module _ (bins longest wait : ℕ) where
       go true = omega arith
       go false = omega arith
 
-  -- the interval is not 0
-  pub some-interval : 0 < bins → bins ≤ longest → 0 < longest / bins
-  some-interval p h = le-div-iff-mul-le p .1 (omega arith)
+-- the interval is not 0
+pub some-interval : (bins longest interval : ℕ) → Bounds bins longest interval → 0 < interval
+some-interval bins longest interval b = rw (b .is) (le-div-iff-mul-le (b .some) .1 (omega (arith, b .enough)))
 
 -- ---- entries counted one by one
 

@@ -1,5 +1,5 @@
 -- Bins in an answer buffer: two words each, the count and the sum (docs/DECISIONS.md, D5), and what a call leaves in the buffer.
-use Prim.Native.Nat.{ℕ, _*_, _<_}
+use Prim.Native.Nat.{ℕ, _*_, _/_, _≤_, _<_}
 use mathlib.Core.Path.{_≡_, refl}
 use mathlib.Core.List.{List, [], _∷_}
 use lib.ListN.{length, getD, drop, set}
@@ -8,6 +8,12 @@ use Rattle.words.specs.Tables.{Table}
 use Rattle.pool_types.specs.Outcomes.{listedOf}
 use Rattle.pool_types.specs.declared.ListOutcome.{ListOutcome}
 use Rattle.fees.specs.Fees.{Bin, bin, Histogram}
+
+-- there are bins, and the longest wait is divided into intervals for them
+pub record Bounds (bins longest interval : ℕ) : Type 0 where
+  pub some : 0 < bins
+  pub enough : bins ≤ longest
+  pub is : interval ≡ longest / bins
 
 unfoldable pub binDec : List ℕ → Bin
 binDec b = bin (getD b 0 0) (getD b 1 0)

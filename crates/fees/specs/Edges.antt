@@ -9,7 +9,7 @@ use Rattle.words.specs.Tables.{of-none}
 use Rattle.pool_types.specs.declared.Mempool.{Mempool}
 use Rattle.pool_types.specs.declared.FeeStrategy.the-variants.{FeePerByte}
 use Rattle.pool_types.specs.Outcomes.{refused, number, wrote}
-use Rattle.stats.specs.Stats.{firstFee, feeForWait}
+use Rattle.stats.specs.Stats.{firstFee, feeIn}
 use Rattle.stats.specs.declared.FeeStats.{FeeStats}
 use Rattle.entries.specs.Entries.{Entry}
 use Rattle.entries.specs.Layout.{entriesRoom, entries}
@@ -45,12 +45,12 @@ third = record { counts = set (replicate 60 0) 3 2; totals = set (replicate 60 0
 -- ---- a fee for a wait: empty bins are skipped, floor(1,500 × 300 / 1,024) is 439; "at least the minimum fee; the minimum if no bin"
 
 fees : (recommended third (state 100 0) 3 300 ≡ number 439) × (recommended third (state 440 0) 3 300 ≡ number 440) × (recommended third (state 100 0) 2 300 ≡ number 100)
-unfolding recommended feeForWait firstFee
+unfolding recommended feeIn firstFee
 fees = (refl, refl, refl)
 
 -- "size above 98,304": a size of 0 is none
 fee-sizes : (recommended third (state 100 0) 3 0 ≡ number 100) × (recommended third (state 100 0) 3 98304 ≡ number 144000) × (recommended third (state 100 0) 3 98305 ≡ refused 3 0)
-unfolding recommended feeForWait firstFee
+unfolding recommended feeIn firstFee
 fee-sizes = (refl, refl, refl)
 
 -- ---- a wait for a fee

@@ -1,6 +1,7 @@
 -- The fee queries (document 01, "Fee and wait"; lib.rs): what each answers, as a function of what the store, the statistics and the arguments hold.
 -- "a query 1, 2, 3, 11": each tests those of them that it has. Counts that do not fit the lent entries are refusal 1 (docs/DECISIONS.md, D2).
 use Prim.Native.Nat.{ℕ, _+_, _-_, _*_, _/_, min, max}
+use mathlib.Core.Path.{_≡_, refl}
 use mathlib.Core.Bool.{_||_}
 use mathlib.Core.List.{List, [], _∷_}
 use lib.Dec.{eqb, leb, ltb}
@@ -9,7 +10,7 @@ use Rattle.words.specs.Lists.{pick}
 use Rattle.words.specs.Sums.{capped, quotientOf}
 use Rattle.pool_types.specs.declared.Mempool.{Mempool}
 use Rattle.pool_types.specs.Outcomes.{Outcome, refused, number, wrote}
-use Rattle.stats.specs.Stats.{feeForWait, waitFor}
+use Rattle.stats.specs.Stats.{feeIn, feeForWait, waitIn, waitFor}
 use Rattle.stats.specs.declared.FeeStats.{FeeStats}
 use Rattle.stats.specs.declared.FeeForWait.{FeeForWait}
 use Rattle.stats.specs.declared.FeeForWait.the-variants.{Fee, NoBin}
@@ -22,8 +23,16 @@ abbrev pub atLeast : ℕ → FeeForWait → ℕ
 atLeast least (Fee f) = max f least
 atLeast least NoBin = least
 
+-- of counts, totals and a minimum
+unfoldable pub recommendedIn : List ℕ → List ℕ → ℕ → ℕ → ℕ → Outcome
+recommendedIn counts totals least minutes size = pick (ltb 98304 size) (refused 3 0) (number (atLeast least (feeIn counts totals minutes size)))
+
 unfoldable pub recommended : FeeStats → Mempool → ℕ → ℕ → Outcome
 recommended s st minutes size = pick (ltb 98304 size) (refused 3 0) (number (atLeast (st .config .«min_fee») (feeForWait s minutes size)))
+
+pub recommended-by : (s : FeeStats) (st : Mempool) (minutes size : ℕ) → recommendedIn (s .counts) (s .totals) (st .config .«min_fee») minutes size ≡ recommended s st minutes size
+unfolding recommendedIn recommended
+recommended-by s st minutes size = refl
 
 -- ---- `expected_wait_ms_at`: "position = entries of weight above floor(fee × 1024/size), capped"
 
@@ -31,13 +40,24 @@ abbrev pub above : ℕ → List Entry → ℕ
 above w [] = 0
 above w (e ∷ es) = pick (ltb w (e .weight)) 1 0 + above w es
 
--- 3: "size above 98,304; in the wait query also 0"
+-- of so many pooled and a window. 3: "size above 98,304; in the wait query also 0"
+unfoldable pub expectedIn : List ℕ → ℕ → ℕ → ℕ → ℕ → ℕ → ℕ → Outcome
+expectedIn e pooled start taken time fee size =
+    pick (leb pooled (entriesRoom e))
+    (pick (eqb size 0 || ltb 98304 size) (refused 3 0)
+    (number (waitIn 60000 start taken time (above (quotientOf (fee * 1024) size) (entriesOf e pooled)))))
+    (refused 1 0)
+
 unfoldable pub expectedWait : List ℕ → FeeStats → Mempool → ℕ → ℕ → ℕ → Outcome
 expectedWait e s st time fee size =
     pick (leb (st .counts .pooled) (entriesRoom e))
     (pick (eqb size 0 || ltb 98304 size) (refused 3 0)
     (number (waitFor 60000 s time (above (quotientOf (fee * 1024) size) (entriesOf e (st .counts .pooled))))))
     (refused 1 0)
+
+pub expected-by : (e : List ℕ) (s : FeeStats) (st : Mempool) (time fee size : ℕ) → expectedIn e (st .counts .pooled) (s .«window_start») (s .taken) time fee size ≡ expectedWait e s st time fee size
+unfolding expectedIn expectedWait
+expected-by e s st time fee size = refl
 
 -- ---- `pool_histogram_at`: "interval floor(max/bins); a wait below max goes to min(floor(wait/interval), bins), else to bins; a pair is a count and a
 -- sum of bases"; "Counts and totals stop at 2^64−1"

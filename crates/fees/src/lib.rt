@@ -1,14 +1,15 @@
 // The fee queries: what to pay for a wait, how long a fee will wait, and how long the pool has waited so far. They change nothing but the
 // answer buffer.
-use entries::fields::base_at;
-use entries::fields::created_at;
 use entries::fields::entries_room;
+use entries::fields::since_at;
 use entries::fields::weight_at;
 use pool_types::ListOutcome;
 use pool_types::Mempool;
 use pool_types::NumberOutcome;
 use stats::FeeForWait;
 use stats::FeeStats;
+use stats::fee_for_wait;
+use stats::wait_for_position;
 use words::sums::saturating_add;
 use words::sums::saturating_sub;
 use words::wide::product;
@@ -21,8 +22,8 @@ ghost use Rattle.words.specs.Lists.{pick};
 ghost use Rattle.words.specs.Sums.{quotientOf};
 ghost use Rattle.pool_types.specs.Outcomes.{numberOf};
 ghost use Rattle.entries.specs.Layout.{EntriesOk, entryAt, entriesOf};
-ghost use Rattle.fees.specs.Fees.{atLeast, recommended, above, expectedWait, bin, noBin, binOf, more, addTo, binned, histogramOf};
-ghost use Rattle.fees.specs.Bins.{binAt, binsOf, Put, Laid, Drawn};
+ghost use Rattle.fees.specs.Fees.{atLeast, recommendedIn, recommended, above, expectedIn, expectedWait, bin, noBin, binOf, more, addTo, binned, histogramOf};
+ghost use Rattle.fees.specs.Bins.{Bounds, binAt, binsOf, Put, Laid, Drawn};
 
 // Largest size of a transaction.
 const MAX_TRANSACTION_SIZE: u32 = 98304;
@@ -44,14 +45,29 @@ fn at_least(least: u64, found: FeeForWait) -> u64
     }
 }
 
-// The fee for a transaction of `size` bytes to be confirmed within `minutes`. It reads no clock.
-pub fn recommended_fee(stats: FeeStats, mempool: Mempool, minutes: u32, size: u32) -> NumberOutcome
-    ensures { λ r. ⌜ numberOf r ≡ recommended stats mempool minutes size ⌝ }
+// The fee for a transaction of `size` bytes to be confirmed within `minutes`, at least `least`. It reads the bins that it needs.
+pub fn recommended_in<'a>(
+    counts: &'a [u64],
+    totals: &'a [u64],
+    least: u64,
+    minutes: u32,
+    size: u32,
+) -> NumberOutcome
+    requires { ⌜ (60 ≤ length (now counts)) × (60 ≤ length (now totals)) ⌝ }
+    ensures { λ r. ⌜ numberOf r ≡ recommendedIn (now (counts .entry)) (now (totals .entry)) least minutes size ⌝ }
 {
     if MAX_TRANSACTION_SIZE < size {
         return NumberOutcome::NoNumber(3);
     }
-    NumberOutcome::Number(at_least(mempool.config.min_fee, stats.fee_for_wait(minutes, size)))
+    NumberOutcome::Number(at_least(least, fee_for_wait(counts, totals, minutes, size)))
+}
+
+// The same of statistics and a state. It reads no clock.
+pub fn recommended_fee(stats: FeeStats, mempool: Mempool, minutes: u32, size: u32) -> NumberOutcome
+    ensures { λ r. ⌜ numberOf r ≡ recommended stats mempool minutes size ⌝ }
+{
+    let least = mempool.config.min_fee;
+    recommended_in(&stats.counts, &stats.totals, least, minutes, size)
 }
 
 // ---- a wait for a fee
@@ -85,7 +101,33 @@ fn position(entries: &[u64], n: usize, weight: u64) -> u64
     count
 }
 
-// The wait in milliseconds that a transaction of `size` bytes paying `fee` can expect at `time`.
+// The wait in milliseconds that a transaction of `size` bytes paying `fee` can expect at `time` among so many pooled, where `taken` were confirmed since
+// `window_start`.
+pub fn expected_wait_in(
+    entries: &[u64],
+    pooled: usize,
+    window_start: u64,
+    taken: u64,
+    time: u64,
+    fee: u64,
+    size: u32,
+) -> NumberOutcome
+    ensures { λ r. ⌜ numberOf r ≡ expectedIn (now (entries .entry)) pooled «window_start» taken time fee size ⌝ }
+{
+    if entries_room(entries) < pooled {
+        return NumberOutcome::NoNumber(1);
+    }
+    if size == 0 {
+        return NumberOutcome::NoNumber(3);
+    }
+    if MAX_TRANSACTION_SIZE < size {
+        return NumberOutcome::NoNumber(3);
+    }
+    let place = position(entries, pooled, fee_per_kb(fee, size));
+    NumberOutcome::Number(wait_for_position(window_start, taken, time, place))
+}
+
+// The same of statistics and a state.
 pub fn expected_wait_ms_at(
     entries: &[u64],
     stats: FeeStats,
@@ -96,17 +138,15 @@ pub fn expected_wait_ms_at(
 ) -> NumberOutcome
     ensures { λ r. ⌜ numberOf r ≡ expectedWait (now (entries .entry)) stats mempool time fee size ⌝ }
 {
-    if entries_room(entries) < mempool.counts.pooled {
-        return NumberOutcome::NoNumber(1);
-    }
-    if size == 0 {
-        return NumberOutcome::NoNumber(3);
-    }
-    if MAX_TRANSACTION_SIZE < size {
-        return NumberOutcome::NoNumber(3);
-    }
-    let place = position(entries, mempool.counts.pooled, fee_per_kb(fee, size));
-    NumberOutcome::Number(stats.wait_for_position(time, place))
+    expected_wait_in(
+        entries,
+        mempool.counts.pooled,
+        stats.window_start,
+        stats.taken,
+        time,
+        fee,
+        size,
+    )
 }
 
 // ---- the pool by the waits so far
@@ -133,14 +173,14 @@ fn clear_bins(answer: &mut [u64], n: usize)
 }
 
 // The bin of a wait. Short of `longest` the quotient can still pass `bins`, where `longest` is no multiple of it.
-fn bin_of(bins: u64, longest: u64, wait: u64) -> u64
-    requires { ⌜ (0 < bins) × (bins ≤ longest) ⌝ }
+fn bin_of(bins: u64, longest: u64, interval: u64, wait: u64) -> u64
+    requires { ⌜ Bounds bins longest interval ⌝ }
     ensures { λ r. ⌜ r ≡ binOf bins longest wait ⌝ }
 {
     if longest <= wait {
         return bins;
     }
-    let i = wait / (longest / bins);
+    let i = wait / interval;
     if i < bins { i } else { bins }
 }
 
@@ -155,27 +195,37 @@ fn add_to(answer: &mut [u64], i: usize, base: u64)
 }
 
 // Counts entry i in the bin of its wait.
-fn add_entry(entries: &[u64], answer: &mut [u64], i: usize, time: u64, bins: u32, longest: u64)
+fn add_entry(
+    entries: &[u64],
+    answer: &mut [u64],
+    i: usize,
+    time: u64,
+    bins: u32,
+    longest: u64,
+    interval: u64,
+)
     requires { ⌜ EntriesOk (now entries) (i + 1) ⌝ }
     requires { ⌜ (bins + 1) * 2 ≤ length (now answer) ⌝ }
-    requires { ⌜ (0 < bins) × (bins ≤ longest) ⌝ }
+    requires { ⌜ Bounds bins longest interval ⌝ }
     ensures { λ _. ⌜ Laid (now (answer .entry)) (now (answer .exit)) (bins + 1) (addTo (binsOf (now (answer .entry)) (bins + 1)) (binOf bins longest (time - entryAt (now (entries .entry)) i .created)) (entryAt (now (entries .entry)) i .base)) ⌝ }
 {
-    let wait = saturating_sub(time, created_at(entries, i));
-    let at = bin_of(bins as u64, longest, wait);
-    add_to(answer, at as usize, base_at(entries, i));
+    let since = since_at(entries, i);
+    let wait = saturating_sub(time, since.created);
+    let at = bin_of(bins as u64, longest, interval, wait);
+    add_to(answer, at as usize, since.base);
 }
 
-// Counts the first n entries.
+// Counts the first n entries. The bins' interval is divided out once for all.
 fn add_entries(entries: &[u64], n: usize, answer: &mut [u64], time: u64, bins: u32, longest: u64)
     requires { ⌜ EntriesOk (now entries) n ⌝ }
     requires { ⌜ (bins + 1) * 2 ≤ length (now answer) ⌝ }
     requires { ⌜ (0 < bins) × (bins ≤ longest) ⌝ }
     ensures { λ _. ⌜ Laid (now (answer .entry)) (now (answer .exit)) (bins + 1) (binned bins longest time (entriesOf (now (entries .entry)) n) (binsOf (now (answer .entry)) (bins + 1))) ⌝ }
 {
+    let interval = longest / bins as u64;
     let mut i = 0;
     while i < n {
-        add_entry(entries, answer, i, time, bins, longest);
+        add_entry(entries, answer, i, time, bins, longest, interval);
         i += 1;
     }
 }

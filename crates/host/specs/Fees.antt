@@ -4,21 +4,21 @@ use Prim.Native.Nat.{ℕ, _-_, _≤_, _<_}
 use mathlib.Core.Path.{_≡_, refl, ap, _∙_}
 use mathlib.Core.List.{List, [], _∷_}
 use lib.Dec.{ltb}
-use lib.ListN.{length, set}
+use lib.ListN.{length, getD, set, take, drop}
 use borrow.Author.Tests.{lt-ltb, le-ltb}
 use Rattle.words.specs.Lists.{pick}
 use Rattle.words.specs.Sums.{cap}
 use Rattle.words.specs.Rows.{stored}
 use Rattle.words.specs.Tables.{of-none}
 use Rattle.pool_types.specs.declared.Mempool.{Mempool}
+use Rattle.pool_types.specs.declared.MempoolConfig.{MempoolConfig}
 use Rattle.pool_types.specs.declared.ListOutcome.{ListOutcome}
 use Rattle.pool_types.specs.declared.NumberOutcome.{NumberOutcome}
 use Rattle.pool_types.specs.declared.NumberOutcome.the-variants.{Number, NoNumber}
 use Rattle.pool_types.specs.Outcomes.{Outcome, refused, done, wrote, needed, candidate, ended, missing, invalid, valid, number, said, entry, none, numberOf, listedOf}
-use Rattle.stats.specs.declared.FeeStats.{FeeStats}
-use Rattle.fees.specs.Fees.{Histogram, noHistogram, histogramOf}
+use Rattle.fees.specs.Fees.{recommendedIn, recommended, recommended-by, expectedIn, expectedWait, expected-by, Histogram, noHistogram, histogramOf}
 use Rattle.fees.specs.Bins.{Laid, Drawn, bins as binTable}
-use Rattle.host.specs.State.{stateOf}
+use Rattle.host.specs.State.{configOf, stateOf}
 use Rattle.host.specs.Statistics.{statsOf}
 use Rattle.host.specs.Queries.{queryOf}
 
@@ -91,11 +91,22 @@ module _ (t s a : List ℕ) where
   unfolding figured
   figure-room o h g f = no-figure 2 _ (rw (le-ltb _ _ h, le-ltb _ _ g, lt-ltb _ _ f))
 
-  -- by a query of the statistics and the state that were read
-  pub figure-by : (q : FeeStats → Mempool → Outcome) (a' : List ℕ) {v : FeeStats} {st : Mempool} {o : Outcome} {n : ℕ} → 25 ≤ length s → 124 ≤ length t → 1 ≤ length a
-      → v ≡ statsOf t → st ≡ stateOf s → o ≡ q v st → Figure a a' n o → Figure a a' n (figured t s (length a) (q (statsOf t) (stateOf s)))
+  -- where there are words enough the query's own outcome counts
+  pub figure-by : (a' : List ℕ) {o p : Outcome} {n : ℕ} → 25 ≤ length s → 124 ≤ length t → 1 ≤ length a → p ≡ o → Figure a a' n p → Figure a a' n (figured t s (length a) o)
   unfolding figured
-  figure-by q a' h g f d e p r = rw (le-ltb (length s) 25 h, le-ltb (length t) 124 g, le-ltb (length a) 1 f, ← d, ← e, ← p) r
+  figure-by a' h g f e r = rw (le-ltb (length s) 25 h, le-ltb (length t) 124 g, le-ltb (length a) 1 f, ← e) r
+
+-- a fee and a wait by the words of the statistics where they stand, and what was read of the state
+module _ (t s : List ℕ) where
+  pub fee-words : (minutes size : ℕ) {c : MempoolConfig} → c ≡ configOf s
+      → recommendedIn (take 60 t) (take 60 (drop 60 t)) (c .«min_fee») minutes size ≡ recommended (statsOf t) (stateOf s) minutes size
+  unfolding statsOf stateOf
+  fee-words minutes size e = rw e (recommended-by (statsOf t) (stateOf s) minutes size)
+
+  pub wait-words : (e : List ℕ) (time fee size : ℕ) {st : Mempool} → st ≡ stateOf s
+      → expectedIn e (st .counts .pooled) (getD t 120 0) (getD t 121 0) time fee size ≡ expectedWait e (statsOf t) (stateOf s) time fee size
+  unfolding statsOf
+  wait-words e time fee size q = rw q (expected-by e (statsOf t) (stateOf s) time fee size)
 
 -- ---- bins: how many pairs were written, and what stands in the answer buffer
 

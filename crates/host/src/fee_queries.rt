@@ -1,12 +1,13 @@
-// The fee queries, exported. They change nothing but the answer buffer.
+// The fee queries, exported. They change nothing but the answer buffer. Of the statistics they read the words that they need, where they stand: the
+// counts from word 0 on, the totals from word 60, the window's start and what was taken in it at 120 and 121.
 use crate::codes::list_code;
 use crate::layout::STATE_WORDS;
+use crate::layout::load_config;
 use crate::layout::load_state;
 use crate::statistics::STATS_WORDS;
-use crate::statistics::load_stats;
-use fees::expected_wait_ms_at;
+use fees::expected_wait_in;
 use fees::pool_histogram_at;
-use fees::recommended_fee;
+use fees::recommended_in;
 use pool_types::NumberOutcome;
 ghost use Prim.Native.Nat.{_≤_};
 ghost use lib.ListN.{length};
@@ -50,9 +51,10 @@ pub extern "C" fn gunthyd_recommended_fee(
     if answer.len() < 1 {
         return u64::MAX - 2;
     }
-    let mempool = load_state(state);
-    let before = load_stats(stats);
-    put_number(answer, recommended_fee(before, mempool, minutes, size))
+    let config = load_config(state);
+    let least = config.min_fee;
+    let outcome = recommended_in(&stats[..60], &stats[60..120], least, minutes, size);
+    put_number(answer, outcome)
 }
 
 // The wait in milliseconds that a transaction of `size` bytes paying `fee` can expect at `time`.
@@ -78,11 +80,9 @@ pub extern "C" fn gunthyd_expected_wait_ms_at(
         return u64::MAX - 2;
     }
     let mempool = load_state(state);
-    let before = load_stats(stats);
-    put_number(
-        answer,
-        expected_wait_ms_at(entries, before, mempool, time, fee, size),
-    )
+    let pooled = mempool.counts.pooled;
+    let outcome = expected_wait_in(entries, pooled, stats[120], stats[121], time, fee, size);
+    put_number(answer, outcome)
 }
 
 // The pool binned by how long each transaction has waited at `time`: a count and a sum of bases for each of `bins` + 1 bins.

@@ -6,7 +6,7 @@ use lib.ListN.{set, replicate}
 use Rattle.words.specs.Sums.{cap}
 use Rattle.stats.specs.declared.FeeStats.{FeeStats}
 use Rattle.stats.specs.declared.FeeForWait.the-variants.{Fee, NoBin}
-use Rattle.stats.specs.Stats.{fresh, counted, added, binned, confirmed, firstFee, feeForWait, waitFor}
+use Rattle.stats.specs.Stats.{fresh, counted, added, binned, confirmed, firstFee, feeIn, feeForWait, waitFor}
 
 -- "Wait 3,599,999 ms: bin 59; 3,600,000: none, yet counted."
 pub last-minute : confirmed 60000 (fresh 0) 3599999 0 7 ≡ record {
@@ -59,5 +59,5 @@ one m = record { counts = set (replicate 60 0) m 2; totals = set (replicate 60 0
 
 -- bin 3 is reached from a wait of 3 minutes on, bin 59 by any longer wait; floor(3,001/2) × 300 is divided by 1,024
 pub fees : (feeForWait (one 3) 2 300 ≡ NoBin) × (feeForWait (one 3) 3 300 ≡ Fee 439) × (feeForWait (one 59) 58 300 ≡ NoBin) × (feeForWait (one 59) 4000000000 300 ≡ Fee 439)
-unfolding feeForWait firstFee
+unfolding feeIn firstFee
 fees = (refl, refl, refl, refl)

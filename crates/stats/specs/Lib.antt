@@ -1,2 +1,3 @@
 pub mod Stats
+pub mod Scan
 pub mod Edges

@@ -68,16 +68,22 @@ confirmed interval s time created base = binned (counted interval s time) (minut
 abbrev pub binFee : ℕ → ℕ → ℕ → ℕ
 binFee total n size = quotientOf (total / n * size) 1024
 
--- "first nonempty bin": of the n bins from bin k on
-unfoldable pub firstFee : FeeStats → ℕ → ℕ → ℕ → FeeForWait
-firstFee s size k zero = NoBin
-firstFee s size k (suc n) =
-    pick (eqb (getD (s .counts) k 0) 0) (firstFee s size (suc k) n) (Fee (binFee (getD (s .totals) k 0) (getD (s .counts) k 0) size))
+-- "first nonempty bin": of the n bins from bin k on, by their counts and their totals
+unfoldable pub firstFee : List ℕ → List ℕ → ℕ → ℕ → ℕ → FeeForWait
+firstFee counts totals size k zero = NoBin
+firstFee counts totals size k (suc n) =
+    pick (eqb (getD counts k 0) 0) (firstFee counts totals size (suc k) n) (Fee (binFee (getD totals k 0) (getD counts k 0) size))
 
 -- "first nonempty bin of 0..min(wait, 59)", both ends included (minutes: the wait)
-unfoldable pub feeForWait : FeeStats → ℕ → ℕ → FeeForWait
-feeForWait s minutes size = firstFee s size 0 (suc (min minutes 59))
+unfoldable pub feeIn : List ℕ → List ℕ → ℕ → ℕ → FeeForWait
+feeIn counts totals minutes size = firstFee counts totals size 0 (suc (min minutes 59))
+
+abbrev pub feeForWait : FeeStats → ℕ → ℕ → FeeForWait
+feeForWait s minutes size = feeIn (s .counts) (s .totals) minutes size
 
 -- "floor(min(now − `window_start`, 60,000) × position/taken), 0 for `taken` 0": the cap belongs to the quotient
+abbrev pub waitIn : ℕ → ℕ → ℕ → ℕ → ℕ → ℕ
+waitIn interval start taken time position = quotientOf (min (time - start) interval * position) taken
+
 abbrev pub waitFor : ℕ → FeeStats → ℕ → ℕ → ℕ
-waitFor interval s time position = quotientOf (min (time - s .«window_start») interval * position) (s .taken)
+waitFor interval s time position = waitIn interval (s .«window_start») (s .taken) time position

@@ -1,13 +1,18 @@
 // Statistics over the transactions that blocks confirmed: a histogram of waits by minute and a window of throughput.
 ghost use mathlib.Core.Path.{_≡_};
-ghost use Prim.Native.Nat.{_-_, _<_, min};
-ghost use Rattle.stats.specs.Stats.{fresh, counted, binned, confirmed, binFee, feeForWait, waitFor};
+ghost use Prim.Native.Nat.{_-_, _≤_, _<_, min};
+ghost use lib.ListN.{length};
+ghost use Rattle.words.specs.Sums.{quotientOf};
+ghost use Rattle.words.specs.Wide.{wideOf};
+ghost use Rattle.stats.specs.Stats.{fresh, counted, binned, confirmed, binFee, feeIn, waitIn};
+ghost use Rattle.stats.specs.Scan.{AllNone, Skipped};
 
 mod minutes;
 
 use minutes::minute_bin;
 use words::sums::saturating_add;
 use words::sums::saturating_sub;
+use words::wide::Wide;
 use words::wide::product;
 use words::wide::quotient;
 
@@ -35,12 +40,22 @@ pub enum FeeForWait {
     NoBin,
 }
 
+// A number of two words divided by 1024: its words are shifted, and nothing is divided.
+fn by_1024(w: Wide) -> u64
+    ensures { λ r. ⌜ r ≡ quotientOf (wideOf w) 1024 ⌝ }
+{
+    if 1024 <= w.high {
+        return u64::MAX;
+    }
+    w.high * 18014398509481984 + w.low / 1024
+}
+
 // The mean base weight of a bin, for a transaction of a size.
 fn bin_fee(total: u64, n: u64, size: u32) -> u64
     requires { ⌜ 0 < n ⌝ }
     ensures { λ r. ⌜ r ≡ binFee total n size ⌝ }
 {
-    quotient(product(total / n, size), 1024)
+    by_1024(product(total / n, size))
 }
 
 // The last bin that a wait reaches.
@@ -111,30 +126,53 @@ impl FeeStats {
         let minute = minute_bin(saturating_sub(time, created));
         self.counted(time).binned(minute, base)
     }
+}
 
-    // The fee of the first nonempty bin that a wait of so many minutes reaches.
-    pub fn fee_for_wait(self, minutes: u32, size: u32) -> FeeForWait
-        ensures { λ r. ⌜ r ≡ feeForWait self minutes size ⌝ }
-    {
-        let last = last_bin(minutes);
-        let mut k: usize = 0;
-        while k <= last {
-            let n = self.counts[k];
-            if n != 0 {
-                return FeeForWait::Fee(bin_fee(self.totals[k], n, size));
-            }
-            k += 1;
+// 0 only where all four are.
+fn either(a: u64, b: u64, c: u64, d: u64) -> u64
+    ensures { λ r. ⌜ (r ≡ 0 → AllNone a b c d) ⌝ }
+{
+    a | b | c | d
+}
+
+// How many of the first bins, none past the last, are seen to be empty, four at a time.
+fn empty_bins(counts: &[u64], last: usize) -> usize
+    requires { ⌜ last < length (now counts) ⌝ }
+    ensures { λ k. ⌜ Skipped (now (counts .entry)) last k ⌝ }
+{
+    let mut k: usize = 0;
+    while k + 3 <= last {
+        if either(counts[k], counts[k + 1], counts[k + 2], counts[k + 3]) != 0 {
+            return k;
         }
-        FeeForWait::NoBin
+        k += 4;
     }
+    k
+}
 
-    // The time until `position` transactions are taken, at the window's rate; 0 while none was taken.
-    pub fn wait_for_position(self, time: u64, position: u64) -> u64
-        ensures { λ r. ⌜ r ≡ waitFor 60000 self time position ⌝ }
-    {
-        let passed = elapsed(self.window_start, time);
-        quotient(product(position, passed), self.taken)
+// The fee of the first nonempty bin that a wait of so many minutes reaches. Of statistics it reads counts and totals alone, wherever they stand.
+pub fn fee_for_wait<'a>(counts: &'a [u64], totals: &'a [u64], minutes: u32, size: u32) -> FeeForWait
+    requires { ⌜ (60 ≤ length (now counts)) × (60 ≤ length (now totals)) ⌝ }
+    ensures { λ r. ⌜ r ≡ feeIn (now (counts .entry)) (now (totals .entry)) minutes size ⌝ }
+{
+    let last = last_bin(minutes);
+    let mut k = empty_bins(counts, last);
+    while k <= last {
+        let n = counts[k];
+        if n != 0 {
+            return FeeForWait::Fee(bin_fee(totals[k], n, size));
+        }
+        k += 1;
     }
+    FeeForWait::NoBin
+}
+
+// The time until `position` transactions are taken, at the rate of a window in which `taken` were; 0 while none was.
+pub fn wait_for_position(window_start: u64, taken: u64, time: u64, position: u64) -> u64
+    ensures { λ r. ⌜ r ≡ waitIn 60000 «window_start» taken time position ⌝ }
+{
+    let passed = elapsed(window_start, time);
+    quotient(product(position, passed), taken)
 }
 
 // `confirmed` on statistics that are lent: they are changed in place.

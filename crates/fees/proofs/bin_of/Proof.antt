@@ -12,24 +12,19 @@ returns c =
     bin-last (a .bins) (a .longest) (a .wait) past _ (omega arith)
 
 div-i : tie.Need-div-i
-div-i c = omega arith
-
-div-i-2 : tie.Need-div-i-2
-div-i-2 c =
-    let a = c .before .args in
-    omega (arith, some-interval (a .bins) (a .longest) (a .wait) (omega arith) (omega arith))
+div-i c = omega (arith, some-interval _ _ _ (c .before .pre))
 
 returns-2 : tie.Need-returns-2
 returns-2 c =
     let a = c .before .before .args in
     let short : a .wait < a .longest = omega arith in
-    bin-within (a .bins) (a .longest) (a .wait) short _ (omega arith)
+    bin-within (a .bins) (a .longest) (a .wait) (a .interval) (c .before .before .pre) short _ (omega arith)
 
 returns-3 : tie.Need-returns-3
 returns-3 c =
     let a = c .before .before .args in
     let short : a .wait < a .longest = omega arith in
-    bin-within (a .bins) (a .longest) (a .wait) short _ (omega arith)
+    bin-within (a .bins) (a .longest) (a .wait) (a .interval) (c .before .before .pre) short _ (omega arith)
 
 pub bin-of-spec : {M : Type 1} → statement M
-bin-of-spec = tie.close (tie.spec returns div-i div-i-2 returns-2 returns-3)
+bin-of-spec = tie.close (tie.spec returns div-i returns-2 returns-3)

@@ -4,14 +4,8 @@ use borrow.Author.Needs.{needs}
 use Rattle.entries.proofs.cells.put_raw.Statement.{statement}
 use Rattle.entries.proofs.cells.put_raw.Tie as tie
 
-slots-requires : tie.Need-slots-requires
-slots-requires c κs = search needs
-
-mul-p : tie.Need-mul-p
-mul-p c = search needs
-
-add-p : tie.Need-add-p
-add-p c = search needs
+place-requires : tie.Need-place-requires
+place-requires c κs = search needs
 
 mul-s : tie.Need-mul-s
 mul-s c = search needs
@@ -24,8 +18,7 @@ same-length c = search needs
 
 returns : tie.Need-returns
 unfolding putRaw
-returns c = rw (c .slots .ensures)
+returns c = rw (c .place .ensures)
 
 pub put-raw-spec : {M : Type 1} → statement M
-put-raw-spec =
-    tie.close (tie.spec slots-requires mul-p add-p mul-s slice-write-s same-length returns)
+put-raw-spec = tie.close (tie.spec place-requires mul-s slice-write-s same-length returns)

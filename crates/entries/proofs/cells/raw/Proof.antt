@@ -4,26 +4,18 @@ use borrow.Author.Needs.{needs}
 use Rattle.entries.proofs.cells.raw.Statement.{statement}
 use Rattle.entries.proofs.cells.raw.Tie as tie
 
-slots-requires : tie.Need-slots-requires
-slots-requires c κs = search needs
+place-requires : tie.Need-place-requires
+place-requires c κs = search needs
 
 mul-result : tie.Need-mul-result
 mul-result c = search needs
-
-add-result : tie.Need-add-result
-add-result c = search needs
-
-mul-result-2 : tie.Need-mul-result-2
-mul-result-2 c = search needs
 
 shared-slice-read-result : tie.Need-shared-slice-read-result
 shared-slice-read-result c = search needs
 
 returns : tie.Need-returns
 unfolding rawAt
-returns c = rw (c .before .slots .ensures)
+returns c = rw (c .before .place .ensures)
 
 pub raw-spec : {M : Type 1} → statement M
-raw-spec =
-    tie.close
-    (tie.spec slots-requires mul-result add-result mul-result-2 shared-slice-read-result returns)
+raw-spec = tie.close (tie.spec place-requires mul-result shared-slice-read-result returns)

@@ -1,60 +1,53 @@
--- `order::turn_in` meets its contract. The loop's invariant: the words from i on have moved down by one (`Opens`). Assumes nothing.
-use borrow.Author.Needs.{needs}
+-- `order::turn_in` meets its contract: the words of the ranks are a slice that turns. Assumes nothing.
+use mathlib.Core.Path.{refl}
 use native.Mathlib.Omega.{arith}
-use Prim.Native.Nat.{_-_}
-use Rattle.entries.specs.Turning.{Opens, opens-none, opens-step, opens-end}
+use borrow.Author.Needs.{needs}
+use Rattle.entries.specs.Turning.{turned-in}
 use Rattle.entries.proofs.order.turn_in.Statement.{statement}
 use Rattle.entries.proofs.order.turn_in.Tie as tie
 
-abbrev Inv-loop : tie.InvT-loop
-Inv-loop s₀ at last hold i₀ s i = Opens s₀ at last s i
+place-requires : tie.Need-place-requires
+place-requires c κs = search needs
 
-abbrev μ-loop : tie.MeasureT-loop
-μ-loop s₀ at last hold i₀ s i = i
+place-requires-2 : tie.Need-place-requires-2
+place-requires-2 c κs = search needs
 
-raw-requires : tie.Need-raw-requires Inv-loop μ-loop
-raw-requires c κs = search needs
+add-e : tie.Need-add-e
+add-e c = search needs
 
-loop-holds : tie.Need-loop-holds Inv-loop μ-loop
-loop-holds c = opens-none (c .before .before .before .args .s .now) (c .before .before .before .args .at) (c .before .before .before .args .last) (c .before .before .before .pre .0)
+mul-words-in : tie.Need-mul-words-in
+mul-words-in c = search needs
 
-sub-i : tie.Need-sub-i Inv-loop μ-loop
-sub-i c = omega arith
+sub-words-in : tie.Need-sub-words-in
+sub-words-in c = search needs
 
-move-raw-requires : tie.Need-move-raw-requires Inv-loop μ-loop
-move-raw-requires c κs = omega (arith, c .before .before .loop .inv .high, c .before .before .loop .inv .len)
+part-words-in-start : tie.Need-part-words-in-start
+part-words-in-start c = search needs
 
-loop-less : tie.Need-loop-less Inv-loop μ-loop
-loop-less c = omega arith
+part-words-in-end : tie.Need-part-words-in-end
+part-words-in-end c = search needs
 
-loop-again : tie.Need-loop-again Inv-loop μ-loop
-loop-again c =
-    let a = c .before .before .before .before .before .before .before .before .before .args in
-    opens-step (a .s .now) (a .at) (a .last) (c .before .before .before .before .before .before .before .before .before .pre .0) (c .before .before .before .before .before .before .before .before .before .pre .1) _ _ (c .before .before .before .before .before .loop .i) (c .before .before .before .before .before .loop .i - 1) (c .before .before .before .before .before .loop .inv) (omega arith) (omega arith) (c .before .before .move-raw .ensures)
+words-in-requires : tie.Need-words-in-requires
+words-in-requires c κs = search needs
 
-put-raw-requires : tie.Need-put-raw-requires Inv-loop μ-loop
-put-raw-requires c κs = omega (arith, c .before .before .loop .inv .high, c .before .before .loop .inv .low, c .before .before .loop .inv .len)
+same-length : tie.Need-same-length
+same-length c = search needs
 
-same-length : tie.Need-same-length Inv-loop μ-loop
-same-length c = omega (arith, c .before .before .before .before .before .loop .inv .len, c .before .before .put-raw .kept .0)
-
-returns : tie.Need-returns Inv-loop μ-loop
+returns : tie.Need-returns
 returns c =
-    let a = c .before .before .before .before .before .before .before .before .before .args in
-    opens-end (a .s .now) (a .at) (a .last) (c .before .before .before .before .before .before .before .before .before .pre .0) (c .before .before .before .before .before .before .before .before .before .pre .1) _ _ (c .before .before .before .before .before .loop .i) _ (c .before .before .before .before .before .loop .inv) (c .before .before .before .before .loop-test .left) (c .before .before .before .before .before .before .raw .ensures) (c .before .before .put-raw .ensures)
+    turned-in _ _ _ _ _ _ _ (c .before .before .before .before .before .before .before .before .before .pre .0) (c .before .before .before .before .before .before .before .before .before .pre .1) (c .before .before .before .before .before .before .place .ensures) (omega (arith, c .before .before .before .before .place2 .ensures)) refl _ refl (c .before .before .words-in .ensures)
 
 pub turn-in-spec : {M : Type 1} → statement M
 turn-in-spec =
     tie.close
     (tie.spec
-    Inv-loop
-    μ-loop
-    raw-requires
-    loop-holds
-    sub-i
-    move-raw-requires
-    loop-less
-    loop-again
-    put-raw-requires
+    place-requires
+    place-requires-2
+    add-e
+    mul-words-in
+    sub-words-in
+    part-words-in-start
+    part-words-in-end
+    words-in-requires
     same-length
     returns)

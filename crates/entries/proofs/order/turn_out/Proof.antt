@@ -1,60 +1,53 @@
--- `order::turn_out` meets its contract. The loop's invariant: the words up to i have moved up by one (`Shuts`). Assumes nothing.
-use borrow.Author.Needs.{needs}
+-- `order::turn_out` meets its contract: the words of the ranks are a slice that turns. Assumes nothing.
+use mathlib.Core.Path.{refl}
 use native.Mathlib.Omega.{arith}
-use Prim.Native.Nat.{_+_, _-_}
-use Rattle.entries.specs.Turning.{Shuts, shuts-none, shuts-step, shuts-end}
+use borrow.Author.Needs.{needs}
+use Rattle.entries.specs.Turning.{turned-out}
 use Rattle.entries.proofs.order.turn_out.Statement.{statement}
 use Rattle.entries.proofs.order.turn_out.Tie as tie
 
-abbrev Inv-loop : tie.InvT-loop
-Inv-loop s₀ at last hold i₀ s i = Shuts s₀ at last s i
+place-requires : tie.Need-place-requires
+place-requires c κs = search needs
 
-abbrev μ-loop : tie.MeasureT-loop
-μ-loop s₀ at last hold i₀ s i = last - i
+place-requires-2 : tie.Need-place-requires-2
+place-requires-2 c κs = search needs
 
-raw-requires : tie.Need-raw-requires Inv-loop μ-loop
-raw-requires c κs = search needs
+add-e : tie.Need-add-e
+add-e c = search needs
 
-loop-holds : tie.Need-loop-holds Inv-loop μ-loop
-loop-holds c = shuts-none (c .before .before .before .args .s .now) (c .before .before .before .args .at) (c .before .before .before .args .last) (c .before .before .before .pre .0)
+mul-words-out : tie.Need-mul-words-out
+mul-words-out c = search needs
 
-add-next : tie.Need-add-next Inv-loop μ-loop
-add-next c = search needs
+sub-words-out : tie.Need-sub-words-out
+sub-words-out c = search needs
 
-move-raw-requires : tie.Need-move-raw-requires Inv-loop μ-loop
-move-raw-requires c κs = omega (arith, c .before .before .loop .inv .high, c .before .before .loop .inv .len)
+part-words-out-start : tie.Need-part-words-out-start
+part-words-out-start c = search needs
 
-loop-less : tie.Need-loop-less Inv-loop μ-loop
-loop-less c = omega arith
+part-words-out-end : tie.Need-part-words-out-end
+part-words-out-end c = search needs
 
-loop-again : tie.Need-loop-again Inv-loop μ-loop
-loop-again c =
-    let a = c .before .before .before .before .before .before .before .before .before .args in
-    shuts-step (a .s .now) (a .at) (a .last) (c .before .before .before .before .before .before .before .before .before .pre .0) (c .before .before .before .before .before .before .before .before .before .pre .1) _ _ (c .before .before .before .before .before .loop .i) (c .before .before .before .before .before .loop .i + 1) (c .before .before .before .before .before .loop .inv) (omega arith) (omega arith) (c .before .before .move-raw .ensures)
+words-out-requires : tie.Need-words-out-requires
+words-out-requires c κs = search needs
 
-put-raw-requires : tie.Need-put-raw-requires Inv-loop μ-loop
-put-raw-requires c κs = omega (arith, c .before .before .loop .inv .len)
+same-length : tie.Need-same-length
+same-length c = search needs
 
-same-length : tie.Need-same-length Inv-loop μ-loop
-same-length c = omega (arith, c .before .before .before .before .before .loop .inv .len, c .before .before .put-raw .kept .0)
-
-returns : tie.Need-returns Inv-loop μ-loop
+returns : tie.Need-returns
 returns c =
-    let a = c .before .before .before .before .before .before .before .before .before .args in
-    shuts-end (a .s .now) (a .at) (a .last) (c .before .before .before .before .before .before .before .before .before .pre .0) (c .before .before .before .before .before .before .before .before .before .pre .1) _ _ (c .before .before .before .before .before .loop .i) _ (c .before .before .before .before .before .loop .inv) (c .before .before .before .before .loop-test .left) (c .before .before .before .before .before .before .raw .ensures) (c .before .before .put-raw .ensures)
+    turned-out _ _ _ _ _ _ _ (c .before .before .before .before .before .before .before .before .before .pre .0) (c .before .before .before .before .before .before .before .before .before .pre .1) (c .before .before .before .before .before .before .place .ensures) (omega (arith, c .before .before .before .before .place2 .ensures)) refl _ refl (c .before .before .words-out .ensures)
 
 pub turn-out-spec : {M : Type 1} → statement M
 turn-out-spec =
     tie.close
     (tie.spec
-    Inv-loop
-    μ-loop
-    raw-requires
-    loop-holds
-    add-next
-    move-raw-requires
-    loop-less
-    loop-again
-    put-raw-requires
+    place-requires
+    place-requires-2
+    add-e
+    mul-words-out
+    sub-words-out
+    part-words-out-start
+    part-words-out-end
+    words-out-requires
     same-length
     returns)

@@ -1,6 +1,7 @@
--- `gunthyd_expected_wait_ms_at` meets its contract: what expected_wait_ms_at says of the state and the statistics that were read. Assumes nothing.
-use Rattle.fees.specs.Fees.{expectedWait}
-use Rattle.host.specs.Fees.{figure-few, figure-few-stats, figure-room, figure-by}
+-- `gunthyd_expected_wait_ms_at` meets its contract: what expected_wait_in says of the statistics' words and the number pooled that was read. Assumes nothing.
+use mathlib.Core.Path.{_∙_}
+use native.Mathlib.Omega.{arith}
+use Rattle.host.specs.Fees.{figure-few, figure-few-stats, figure-room, figure-by, wait-words}
 use borrow.Author.Needs.{needs}
 use Rattle.host.proofs.fee_queries.gunthyd_expected_wait_ms_at.Statement.{statement}
 use Rattle.host.proofs.fee_queries.gunthyd_expected_wait_ms_at.Tie as tie
@@ -26,11 +27,14 @@ returns-3 c = figure-room _ _ _ _ (c .before .before .if1 .left) (c .before .if2
 load-state-requires : tie.Need-load-state-requires
 load-state-requires c κs = search needs
 
-load-stats-requires : tie.Need-load-stats-requires
-load-stats-requires c κs = search needs
+shared-slice-read-expected-wait-in : tie.Need-shared-slice-read-expected-wait-in
+shared-slice-read-expected-wait-in c = search needs
 
-expected-wait-ms-at-requires : tie.Need-expected-wait-ms-at-requires
-expected-wait-ms-at-requires c κs = search needs
+shared-slice-read-expected-wait-in-2 : tie.Need-shared-slice-read-expected-wait-in-2
+shared-slice-read-expected-wait-in-2 c = search needs
+
+expected-wait-in-requires : tie.Need-expected-wait-in-requires
+expected-wait-in-requires c κs = search needs
 
 put-number-requires : tie.Need-put-number-requires
 put-number-requires c κs = search needs
@@ -40,8 +44,7 @@ same-length c = search needs
 
 returns-4 : tie.Need-returns-4
 returns-4 c =
-    let a = c .before .before .before .before .before .before .before .before .before .before .before .before .before .before .args in
-    figure-by _ _ _ (λ v st. expectedWait (a .entries .now) v st (a .time) (a .fee) (a .size)) _ (c .before .before .before .before .before .before .before .before .before .if1 .left) (c .before .before .before .before .before .before .before .before .if2 .left) (c .before .before .before .before .before .before .before .if3 .left) (c .before .before .before .before .before .load-stats .ensures) (c .before .before .before .before .before .before .load-state .ensures) (c .before .before .before .expected-wait-ms-at .ensures) (c .before .before .put-number .ensures)
+    figure-by _ _ _ _ (omega arith) (omega arith) (omega arith) (c .before .before .before .before .expected-wait-in .ensures ∙ wait-words _ _ _ _ _ _ (c .before .before .before .before .before .before .before .load-state .ensures)) (c .before .before .put-number .ensures)
 
 pub gunthyd-expected-wait-ms-at-spec : {M : Type 1} → statement M
 gunthyd-expected-wait-ms-at-spec =
@@ -54,8 +57,9 @@ gunthyd-expected-wait-ms-at-spec =
     sub-result-3
     returns-3
     load-state-requires
-    load-stats-requires
-    expected-wait-ms-at-requires
+    shared-slice-read-expected-wait-in
+    shared-slice-read-expected-wait-in-2
+    expected-wait-in-requires
     put-number-requires
     same-length
     returns-4)

@@ -1,10 +1,10 @@
--- `FeeStats::wait_for_position` meets its contract, from what the product and the quotient ensure.
+-- `wait_for_position` meets its contract, from what the product and the quotient ensure.
 -- Assumes nothing.
 use mathlib.Core.Path.{_∙_}
 use native.Mathlib.Nat.{mul-comm}
 use borrow.Author.Needs.{needs}
-use Rattle.stats.proofs.FeeStats.wait_for_position.Statement.{statement}
-use Rattle.stats.proofs.FeeStats.wait_for_position.Tie as tie
+use Rattle.stats.proofs.wait_for_position.Statement.{statement}
+use Rattle.stats.proofs.wait_for_position.Tie as tie
 
 elapsed-requires : tie.Need-elapsed-requires
 elapsed-requires c κs = search needs
