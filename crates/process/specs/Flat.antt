@@ -13,10 +13,10 @@ use Rattle.words.specs.Rows.{stored, recs, length-recs, recs-store}
 use Rattle.words.specs.Tables.{Table, drop-of, drop-past}
 use Rattle.pool_types.specs.declared.Mempool.{Mempool}
 use Rattle.pool_types.specs.declared.Submission.{Submission}
-use Rattle.pool_types.specs.Outcomes.{Outcome, processedOf, refused, needed}
+use Rattle.pool_types.specs.Outcomes.{Outcome, processedOf, refused}
 use Rattle.store.specs.World.{Result}
 use Rattle.store.specs.Fits.{Kept, allFit}
-use Rattle.store.specs.Spares.{Lent, lent, charging, Spares}
+use Rattle.store.specs.Spares.{Lent, lent, Spares}
 use Rattle.admit.specs.Placed.{writtenOf}
 use Rattle.peers.specs.Peers.{peerOf, noPeer, peersOf, standing, standingFrom, chargePeer, placeOf, usedAfter, chargedRecord}
 use Rattle.peers.specs.Laws.{charged, charged-peers, place-used}
@@ -31,6 +31,7 @@ use Rattle.process.specs.declared.submission.Submitted.{Submitted}
 use Rattle.process.specs.Claims.{answered, Offers}
 use Rattle.process.specs.Numbers.{ofSubmission}
 use Rattle.process.specs.Post.{Post}
+use Rattle.process.specs.Words.{SparesPeers}
 
 -- ---- a search, turn by turn
 
@@ -173,11 +174,6 @@ module _ (p : List ℕ) (st : Mempool) (a : Submission) {n : ℕ} {s : Sought} (
   found-there e = e ∙ rw (q, ← records-first p (min (st .sums .peers) n) (omega (arith, l)))
 
 -- ---- what is said of the words
-
--- the peer words were p and are q: in a refusal that does not charge, and at 'verdict needed', not a word is another
-pub record SparesPeers (o : Outcome) (p q : List ℕ) : Type 0 where
-  pub asked : o ≡ needed → q ≡ p
-  pub refusal : (j i : ℕ) → o ≡ refused j i → charging j ≡ false → q ≡ p
 
 spares-peers : {o : Outcome} {e b k p a : List ℕ} {st : Mempool} {e' b' k' q a' : List ℕ} {st' : Mempool} → (records q ≡ records p → q ≡ p)
     → Spares o (lent e b k (records p) a st) (lent e' b' k' (records q) a' st') → SparesPeers o p q

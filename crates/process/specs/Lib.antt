@@ -5,4 +5,5 @@ pub mod Post
 pub mod Numbers
 pub mod Claims
 pub mod Promises
+pub mod Words
 pub mod Flat

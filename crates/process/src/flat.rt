@@ -18,9 +18,10 @@ ghost use Rattle.store.specs.Fits.{allFit};
 ghost use Rattle.store.specs.Spares.{lent, Spares};
 ghost use Rattle.admit.specs.Placed.{writtenOf};
 ghost use Rattle.process.specs.Bills.{Payable};
-ghost use Rattle.process.specs.Flat.{PaidWords, SparesPeers};
+ghost use Rattle.process.specs.Flat.{PaidWords};
 ghost use Rattle.process.specs.Numbers.{ofSubmission};
 ghost use Rattle.process.specs.Promises.{ProcessPromise};
+ghost use Rattle.process.specs.Words.{SparesPeers};
 
 // Where `peer` stands among the first `used` records.
 fn find_flat(records: &[u64], used: usize, peer: u64) -> Standing
