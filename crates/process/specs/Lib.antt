@@ -6,4 +6,3 @@ pub mod Numbers
 pub mod Claims
 pub mod Promises
 pub mod Words
-pub mod Flat

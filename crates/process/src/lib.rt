@@ -1,5 +1,4 @@
 // A submission, whole: its tests, its verdict, the charge, and what follows a valid one. The store is lent, the state goes in and out by value.
-pub mod flat;
 mod peer_words;
 mod submission;
 
