@@ -1,7 +1,6 @@
-// Answers that any line can have, and the smaller of two numbers.
+// Answers that any line can have.
 use replies::pieces::text;
-ghost use mathlib.Core.Path.{_≡_};
-ghost use Prim.Native.Nat.{_≤_, min};
+ghost use Prim.Native.Nat.{_≤_};
 ghost use lib.ListN.{length};
 ghost use Rattle.forms.specs.Nums.{Prints};
 ghost use Rattle.console.specs.Console.{wNoPool, refusedText, unreadText};
@@ -25,10 +24,4 @@ pub fn no_pool(out: &mut [u8]) -> usize
     ensures { λ r. ⌜ Prints wNoPool 0 (now (out .entry)) (now (out .exit)) r ⌝ }
 {
     text(out, 0, b"(no pool)")
-}
-
-pub fn smaller(a: usize, b: usize) -> usize
-    ensures { λ r. ⌜ r ≡ min a b ⌝ }
-{
-    if a < b { a } else { b }
 }

@@ -2,13 +2,13 @@
 use crate::Kept;
 use crate::Told;
 use crate::answer::refused;
-use crate::answer::smaller;
 use blocks::apply_block_by_value;
 use lines::read::BlockForm;
 use pool_types::BlockOutcome;
 use pool_types::Mempool;
 use replies::with_ids;
 use stats::FeeStats;
+use words::sums::smaller;
 ghost use mathlib.Core.Path.{_≡_};
 ghost use Prim.Native.Nat.{ℕ, _/_, _≤_};
 ghost use mathlib.Core.List.{List};

@@ -1,7 +1,6 @@
 // The calls that change the pool, of a pool that is there.
 use crate::Kept;
 use crate::Told;
-use crate::answer::smaller;
 use crate::block::on_block;
 use crate::calls::Change;
 use crate::calls::words_of;
@@ -11,6 +10,7 @@ use crate::pass::on_next;
 use crate::pass::on_open;
 use crate::returning::on_return;
 use crate::submit::on_tx;
+use words::sums::smaller;
 ghost use Prim.Native.Nat.{_≤_};
 ghost use lib.ListN.{length, take};
 ghost use Rattle.console.specs.Calls.{wordsOf};

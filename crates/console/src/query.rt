@@ -1,7 +1,6 @@
 // The queries: they change nothing but what is printed.
 use crate::Kept;
 use crate::answer::refused;
-use crate::answer::smaller;
 use crate::calls::Query;
 use crate::estimates::on_fee;
 use crate::estimates::on_histogram;
@@ -22,6 +21,7 @@ use replies::spender;
 use replies::with_ids;
 use replies::with_number;
 use words::ids::Id;
+use words::sums::smaller;
 ghost use mathlib.Core.Path.{_≡_};
 ghost use Prim.Native.Nat.{ℕ, _/_, _≤_};
 ghost use mathlib.Core.List.{List};

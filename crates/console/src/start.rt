@@ -3,21 +3,25 @@ use crate::Kept;
 use crate::Told;
 use crate::answer::refused;
 use lines::read::PoolForm;
-use mempool::new;
 use mempool::start;
+use pool_types::Counts;
 use pool_types::FeeStrategy;
+use pool_types::Mempool;
 use pool_types::MempoolConfig;
+use pool_types::Pass;
 use pool_types::StartOutcome;
+use pool_types::Sums;
 use replies::pieces::text;
 use stats::FeeStats;
+use words::ids::Id;
 ghost use mathlib.Core.Path.{_≡_};
 ghost use Prim.Native.Nat.{_/_, _≤_};
 ghost use lib.ListN.{length};
 ghost use Rattle.entries.specs.Layout.{entriesRoom};
 ghost use Rattle.boxes.specs.Layout.{boxesRoom};
 ghost use Rattle.expiring_cache.specs.Layout.{cacheRoom};
-ghost use Rattle.mempool.specs.Start.{sizes, started};
-ghost use Rattle.console.specs.Console.{strategyOf, configOf, nothing, startedLine};
+ghost use Rattle.mempool.specs.Start.{sizes, empty, started};
+ghost use Rattle.console.specs.Console.{strategyOf, configOf, noConfig, nothing, startedLine};
 ghost use Rattle.console.specs.After.{Holds, After};
 
 fn strategy_of(byte: u64) -> FeeStrategy
@@ -79,23 +83,62 @@ pub fn on_pool(
     }
 }
 
-// What is held before the first `(ready)`.
+// ---- before the first `(ready)`
+
+fn no_config() -> MempoolConfig
+    ensures { λ r. ⌜ r ≡ noConfig ⌝ }
+{
+    MempoolConfig {
+        capacity: 0,
+        min_fee: 0,
+        fee_strategy: FeeStrategy::FeePerByte,
+        cleanup_interval: 0,
+        rebroadcast_count: 0,
+        invalidation_ttl: 0,
+        invalidation_capacity: 0,
+        cost_per_block: 0,
+        cost_per_peer_per_block: 0,
+    }
+}
+
+// A state that no line sees: no start made it.
+fn unseen() -> Mempool
+    ensures { λ r. ⌜ r ≡ empty noConfig ⌝ }
+{
+    Mempool {
+        config: no_config(),
+        counts: Counts {
+            pooled: 0,
+            records: 0,
+        },
+        cached: 0,
+        sums: Sums {
+            interblock_cost: 0,
+            peers: 0,
+        },
+        pass: Pass {
+            open: false,
+            out: false,
+            candidate: Id {
+                a: 0,
+                b: 0,
+                c: 0,
+                d: 0,
+            },
+            time: 0,
+            limit: 0,
+            preheader: 0,
+            spent: 0,
+        },
+    }
+}
+
 pub fn fresh() -> Kept
     ensures { λ r. ⌜ r ≡ nothing ⌝ }
 {
     Kept {
         ready: false,
-        mempool: new(MempoolConfig {
-            capacity: 0,
-            min_fee: 0,
-            fee_strategy: FeeStrategy::FeePerByte,
-            cleanup_interval: 0,
-            rebroadcast_count: 0,
-            invalidation_ttl: 0,
-            invalidation_capacity: 0,
-            cost_per_block: 0,
-            cost_per_peer_per_block: 0,
-        }),
+        mempool: unseen(),
         stats: FeeStats::new(0),
         written: 0,
     }

@@ -63,7 +63,7 @@ fn is_settled(e: usize, r: usize, k: usize, p: usize, config: MempoolConfig) -> 
 }
 
 // The state of an empty pool: no charge, no pass.
-pub fn new(config: MempoolConfig) -> Mempool
+fn new(config: MempoolConfig) -> Mempool
     ensures { λ r. ⌜ r ≡ empty config ⌝ }
 {
     Mempool {

@@ -7,8 +7,9 @@ use console::start::fresh;
 use console::tell;
 use lines::read::read_form;
 use words::sums::saturating_add;
+use words::sums::smaller;
 ghost use mathlib.Core.Path.{_≡_};
-ghost use Prim.Native.Nat.{_<_, min};
+ghost use Prim.Native.Nat.{_<_};
 ghost use lib.ListN.{length, set};
 ghost use Rattle.console.specs.After.{Holds};
 ghost use Rattle.io.specs.Counts.{Counts};
@@ -96,12 +97,6 @@ fn write_line(out: &mut [u8], len: usize)
     out[len] = 10;
     let n = len + 1;
     hand_over(&out[..n]);
-}
-
-fn smaller(a: usize, b: usize) -> usize
-    ensures { λ r. ⌜ r ≡ min a b ⌝ }
-{
-    if a < b { a } else { b }
 }
 
 // A line is whole: it stands at the front of `line`. It is answered, and the answer is written at once.

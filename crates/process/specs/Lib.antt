@@ -5,4 +5,4 @@ pub mod Post
 pub mod Numbers
 pub mod Claims
 pub mod Promises
-pub mod Flat
+pub mod Words

@@ -1,6 +1,6 @@
 // Submissions that no line of poolrun can make: each line has a case and what the call answers. The lines of `stdout` are worked out by hand
 // from document 01: "Order: 20, 1, 2, .. 7, 27, ..".
-use mempool::new;
+use mempool::start;
 use pool_types::Counts;
 use pool_types::FeeStrategy;
 use pool_types::Mempool;
@@ -8,17 +8,19 @@ use pool_types::MempoolConfig;
 use pool_types::Pass;
 use pool_types::ProcessingOutcome;
 use pool_types::Source;
+use pool_types::StartOutcome;
 use pool_types::Submission;
 use pool_types::Sums;
 use pool_types::Verdict;
-use process::flat::process_words;
+use process::process_words;
 use words::ids::Id;
 
 // ---- the states
 
-// An empty pool of at most 3 transactions.
-fn empty() -> Mempool {
-    new(MempoolConfig {
+// A start: an empty pool of at most 3 transactions.
+fn begin(entries: &[u64], boxes: &[u64]) -> StartOutcome {
+    let cache = [0u64; 23];
+    let config = MempoolConfig {
         capacity: 3,
         min_fee: 1000,
         fee_strategy: FeeStrategy::FeePerByte,
@@ -28,7 +30,8 @@ fn empty() -> Mempool {
         invalidation_capacity: 2,
         cost_per_block: 12000000,
         cost_per_peer_per_block: 10000000,
-    })
+    };
+    start(entries, boxes, &cache, 256, config)
 }
 
 // The same while a pass is open.
@@ -163,15 +166,15 @@ fn broken_outputs(entries: &mut [u64], boxes: &mut [u64], case: &[u8], mempool: 
     submit(entries, boxes, case, 4, mempool, 1, &inputs, &outputs);
 }
 
-fn broken(entries: &mut [u64], boxes: &mut [u64]) {
-    broken_inputs(entries, boxes, b"an input of 6 words:", empty());
-    broken_outputs(entries, boxes, b"an output of 6 words:", empty());
+fn broken(entries: &mut [u64], boxes: &mut [u64], empty: Mempool) {
+    broken_inputs(entries, boxes, b"an input of 6 words:", empty);
+    broken_outputs(entries, boxes, b"an output of 6 words:", empty);
 }
 
 // 1: ".. or its counts disagree": with what is lent, 4 entries, 5,001 box records and 256 peer records
-fn miscounted(entries: &mut [u64], boxes: &mut [u64]) {
-    let pooled = counting(empty(), 5, 0);
-    let recorded = counting(empty(), 0, 5002);
+fn miscounted(entries: &mut [u64], boxes: &mut [u64], empty: Mempool) {
+    let pooled = counting(empty, 5, 0);
+    let recorded = counting(empty, 0, 5002);
     offer(entries, boxes, b"5 of 4 entries used:", 8, pooled, 1);
     offer(
         entries,
@@ -183,19 +186,19 @@ fn miscounted(entries: &mut [u64], boxes: &mut [u64]) {
     );
 }
 
-fn overcharged(entries: &mut [u64], boxes: &mut [u64]) {
-    let peers = charged(empty(), 257);
+fn overcharged(entries: &mut [u64], boxes: &mut [u64], empty: Mempool) {
+    let peers = charged(empty, 257);
     offer(entries, boxes, b"257 of 256 peers charged:", 8, peers, 1);
 }
 
 // 2: "answer buffer below pooled + 1 ids", of four words each
-fn first(entries: &mut [u64], boxes: &mut [u64]) -> Mempool {
+fn first(entries: &mut [u64], boxes: &mut [u64], empty: Mempool) -> Mempool {
     let none = offer(
         entries,
         boxes,
         b"none pooled, an answer of 3 words:",
         3,
-        empty(),
+        empty,
         1,
     );
     offer(
@@ -228,8 +231,8 @@ fn second(entries: &mut [u64], boxes: &mut [u64], one: Mempool) {
 }
 
 // 20: "a pass is open", before all else
-fn open(entries: &mut [u64], boxes: &mut [u64]) {
-    let open = passing(empty());
+fn open(entries: &mut [u64], boxes: &mut [u64], empty: Mempool) {
+    let open = passing(empty);
     offer(entries, boxes, b"a pass is open:", 4, open, 1);
     let unfit = counting(open, 5, 0);
     offer(
@@ -249,21 +252,21 @@ fn open(entries: &mut [u64], boxes: &mut [u64]) {
 }
 
 // 7: "more than 5,000 inputs"; 5,000 and an output find their box records
-fn too_many(entries: &mut [u64], boxes: &mut [u64], inputs: &[u64]) {
+fn too_many(entries: &mut [u64], boxes: &mut [u64], inputs: &[u64], empty: Mempool) {
     let outputs = [0, 0, 0, 11, 2000, 1, 50];
     submit(
         entries,
         boxes,
         b"5001 inputs:",
         4,
-        empty(),
+        empty,
         1,
         inputs,
         &outputs,
     );
 }
 
-fn one_less(entries: &mut [u64], boxes: &mut [u64], inputs: &[u64]) {
+fn one_less(entries: &mut [u64], boxes: &mut [u64], inputs: &[u64], empty: Mempool) {
     let outputs = [0, 0, 0, 11, 2000, 1, 50];
     if inputs.len() < 5 {
         return;
@@ -273,11 +276,32 @@ fn one_less(entries: &mut [u64], boxes: &mut [u64], inputs: &[u64]) {
         boxes,
         b"5000 inputs:",
         4,
-        empty(),
+        empty,
         1,
         &inputs[5..],
         &outputs,
     );
+}
+
+// ---- all of them, on one store
+
+fn unfit(entries: &mut [u64], boxes: &mut [u64], empty: Mempool) {
+    broken(entries, boxes, empty);
+    miscounted(entries, boxes, empty);
+    overcharged(entries, boxes, empty);
+}
+
+fn fitting(entries: &mut [u64], boxes: &mut [u64], inputs: &[u64], empty: Mempool) {
+    let one = first(entries, boxes, empty);
+    second(entries, boxes, one);
+    open(entries, boxes, empty);
+    too_many(entries, boxes, inputs, empty);
+    one_less(entries, boxes, inputs, empty);
+}
+
+fn run(entries: &mut [u64], boxes: &mut [u64], inputs: &[u64], empty: Mempool) {
+    unfit(entries, boxes, empty);
+    fitting(entries, boxes, inputs, empty);
 }
 
 // One store: room for 4 transactions, and for the records of 5,000 inputs and an output. The inputs are one confirmed box, 5,001 times.
@@ -285,12 +309,12 @@ fn main() {
     let mut entries = [0u64; 74];
     let mut boxes = [0u64; 81278];
     let inputs = [1u64; 25005];
-    broken(&mut entries, &mut boxes);
-    miscounted(&mut entries, &mut boxes);
-    overcharged(&mut entries, &mut boxes);
-    let one = first(&mut entries, &mut boxes);
-    second(&mut entries, &mut boxes, one);
-    open(&mut entries, &mut boxes);
-    too_many(&mut entries, &mut boxes, &inputs);
-    one_less(&mut entries, &mut boxes, &inputs);
+    let begun = begin(&entries, &boxes);
+    match begun {
+        StartOutcome::Ready(empty) => run(&mut entries, &mut boxes, &inputs, empty),
+        StartOutcome::NotStarted(number) => {
+            io::write_all(1, b"start: refused ");
+            io::print_decimal(1, number);
+        }
+    }
 }

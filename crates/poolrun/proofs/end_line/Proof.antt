@@ -6,7 +6,7 @@ use Rattle.poolrun.proofs.end_line.Statement.{statement}
 use Rattle.poolrun.proofs.end_line.Tie as tie
 use Rattle.poolrun.proofs.end_line.Reads as reads
 use Rattle.poolrun.proofs.end_line.Lts as lts
-use Rattle.poolrun.proofs.smaller.Reads as smaller-reads
+use Rattle.words.proofs.sums.smaller.Reads as smaller-reads
 use Rattle.poolrun.proofs.tell_line.Reads as tell-line-reads
 use Rattle.poolrun.proofs.write_line.Reads as write-line-reads
 use Rattle.words.proofs.sums.saturating_add.Reads as saturating-add-reads

@@ -4,7 +4,7 @@ use Rattle.console.proofs.change.alter.Statement.{statement}
 use Rattle.console.proofs.change.alter.Tie as tie
 use Rattle.console.proofs.change.alter.Reads as reads
 use Rattle.console.proofs.change.alter.Lts as lts
-use Rattle.console.proofs.answer.smaller.Reads as smaller-reads
+use Rattle.words.proofs.sums.smaller.Reads as smaller-reads
 use Rattle.console.proofs.calls.words_of.Reads as words-of-reads
 use Rattle.console.proofs.change.make.Reads as make-reads
 

@@ -11,7 +11,7 @@ use Rattle.console.proofs.query.on_rebroadcast.Reads as reads
 use Rattle.console.proofs.query.on_rebroadcast.Lts as lts
 use Rattle.cleanup.proofs.rebroadcast.select_for_rebroadcast.Reads as select-for-rebroadcast-reads
 use Rattle.console.proofs.answer.refused.Reads as refused-reads
-use Rattle.console.proofs.answer.smaller.Reads as smaller-reads
+use Rattle.words.proofs.sums.smaller.Reads as smaller-reads
 use Rattle.replies.proofs.with_ids.Reads as with-ids-reads
 
 smaller-requires : tie.Need-smaller-requires
