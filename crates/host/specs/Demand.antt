@@ -1,6 +1,6 @@
 -- Demand 3 (document 01) of the words that the C side holds: over every list of exported calls from an accepted gunthyd_start, with any arguments and
 -- any answer buffers, the words decode to the pool that the ledger says. The ledger is fed the decoded arguments and the outcome behind each number.
-use Prim.Native.Nat.{ℕ, _/_, _≤_, _<_}
+use Prim.Native.Nat.{ℕ, _≤_, _<_}
 use mathlib.Core.Path.{_≡_, refl, sym, ap, subst, _∙_}
 use mathlib.Core.Bool.{Bool, true, false}
 use mathlib.Core.List.{List, [], _∷_}
@@ -13,7 +13,7 @@ use Rattle.pool_types.specs.declared.Verdict.{Verdict}
 use Rattle.pool_types.specs.declared.StartOutcome.{StartOutcome}
 use Rattle.pool_types.specs.declared.StartOutcome.the-variants.{Ready, NotStarted}
 use Rattle.pool_types.specs.Outcomes.{Outcome, processedOf, returnedOf, invalidatedOf, blockOf, openedOf, nextOf, answeredOf}
-use Rattle.peers.specs.Flat.{records, flats}
+use Rattle.peers.specs.declared.PeerRecord.{PeerRecord}
 use Rattle.mempool.specs.Start.{Sizes, sized, settled, empty, started}
 use Rattle.ledger.specs.Ledger.{Call, Submit, Return, Block, Invalidate, Open, Next, Answer, Heard}
 use Rattle.ledger.specs.Run.{Moment, moment, sizesAt}
@@ -29,20 +29,20 @@ use Rattle.host.specs.Starts.{Answered, sizesOf, Started}
 
 -- ---- what the C side holds between two calls
 
--- the words of the lent tables, and those of the state
+-- the words of the lent tables, the peer records, and the words of the state
 pub record HostMoment : Type 0 where
   pub entries : List ℕ
   pub boxes : List ℕ
   pub cache : List ℕ
-  pub peers : List ℕ
+  pub peers : List PeerRecord
   pub state : List ℕ
 
-abbrev pub held : List ℕ → List ℕ → List ℕ → List ℕ → List ℕ → HostMoment
+abbrev pub held : List ℕ → List ℕ → List ℕ → List PeerRecord → List ℕ → HostMoment
 held e b k p s = record { entries = e; boxes = b; cache = k; peers = p; state = s }
 
 -- what they decode to
 abbrev pub decoded : HostMoment → Moment
-decoded m = moment (m .entries) (m .boxes) (m .cache) (records (m .peers)) (stateOf (m .state))
+decoded m = moment (m .entries) (m .boxes) (m .cache) (m .peers) (stateOf (m .state))
 
 -- lent with an answer buffer
 abbrev pub with : HostMoment → List ℕ → Lent
@@ -61,7 +61,7 @@ hears c o = record { call = c; outcome = o }
 -- That there is a whole state is no assumption: `host-long`.
 pub data HostRun (g : MempoolConfig) : List Heard → HostMoment → Type 0 where
   -- a start with these settings and a peer limit of at least 1 answered 0
-  begins : {s₀ : List ℕ} (m : HostMoment) → Started (m .entries) (m .boxes) (m .cache) (m .peers) s₀ (m .state) 0 → configOf s₀ ≡ g → 1 ≤ g .«cost_per_peer_per_block» → HostRun g [] m
+  begins : {s₀ : List ℕ} (m : HostMoment) → Started (m .entries) (m .boxes) (m .cache) (length (m .peers)) s₀ (m .state) 0 → configOf s₀ ≡ g → 1 ≤ g .«cost_per_peer_per_block» → HostRun g [] m
   submits : {h : List Heard} {m n : HostMoment} {sub ins outs a₀ a : List ℕ} {code : ℕ} → HostRun g h m
       → (x : Submitted (with m a₀) (with n a) (m .state) (n .state) sub ins outs code) (l : 25 ≤ length (m .state)) (q : 11 ≤ length sub)
       → HostRun g (hears (Submit (submissionOf sub) ins outs) (processedOf (x .ran l q .outcome)) ∷ h) n
@@ -94,7 +94,7 @@ pub data HostRun (g : MempoolConfig) : List Heard → HostMoment → Type 0 wher
       → NextCall (m .entries) (m .state) s a₀ a code → length a₀ < 4 → HostRun g h (held (m .entries) (m .boxes) (m .cache) (m .peers) s)
   -- a start that is refused; one that is not begins a new list
   starts-not : {h : List Heard} {m : HostMoment} {s : List ℕ} {code : ℕ} → HostRun g h m
-      → Started (m .entries) (m .boxes) (m .cache) (m .peers) (m .state) s code → (code ≡ 0 → ⊥) → HostRun g h (held (m .entries) (m .boxes) (m .cache) (m .peers) s)
+      → Started (m .entries) (m .boxes) (m .cache) (length (m .peers)) (m .state) s code → (code ≡ 0 → ⊥) → HostRun g h (held (m .entries) (m .boxes) (m .cache) (m .peers) s)
 
 -- ---- a start
 
@@ -108,7 +108,7 @@ not-six z c n = go (sized z) (settled z c)
     go true false e = cc
     go false b e = cc
 
-module _ {e b k p s₀ s : List ℕ} {code : ℕ} (x : Started e b k p s₀ s code) where
+module _ {e b k : List ℕ} {p : ℕ} {s₀ s : List ℕ} {code : ℕ} (x : Started e b k p s₀ s code) where
   -- refused, the state's words are those that it was lent
   pub start-kept : (code ≡ 0 → ⊥) → s ≡ s₀
   unfolding Answered
@@ -123,11 +123,11 @@ module _ {e b k p s₀ s : List ℕ} {code : ℕ} (x : Started e b k p s₀ s co
       go (no q) = by (started (sizesOf e b k p) (configOf s₀)) (x .begun (omega (arith, q)))
 
 -- accepted, with 25 words at least, they hold the state that start handed back
-pub record Accepted (e b k p s₀ s : List ℕ) : Type 0 where
+pub record Accepted (e b k : List ℕ) (p : ℕ) (s₀ s : List ℕ) : Type 0 where
   pub long : 25 ≤ length s
   pub ready : started (sizesOf e b k p) (configOf s₀) ≡ Ready (stateOf s)
 
-pub start-accepted : {e b k p s₀ s : List ℕ} → Started e b k p s₀ s 0 → Accepted e b k p s₀ s
+pub start-accepted : {e b k : List ℕ} {p : ℕ} {s₀ s : List ℕ} → Started e b k p s₀ s 0 → Accepted e b k p s₀ s
 unfolding Answered
 start-accepted {e} {b} {k} {p} {s₀} {s} x = go (decLt (length s₀) 25)
   where
@@ -190,9 +190,8 @@ host-long (nexts-few {m = m} r x q) = let l = host-long r in subst (λ (k : Host
 host-long (starts-not r x z) = let l = host-long r in subst (λ (s : List ℕ). 25 ≤ length s) (sym (start-kept x z)) l
 
 -- an accepted start of these very words
-accepted-here : {g : MempoolConfig} {s₀ : List ℕ} (m : HostMoment) → Started (m .entries) (m .boxes) (m .cache) (m .peers) s₀ (m .state) 0 → configOf s₀ ≡ g → started (sizesAt (decoded m)) g ≡ Ready (decoded m .state)
-accepted-here {g} {s₀} m x c =
-    rw (flats .len (m .peers) (length (m .peers) / 2), ← c) (start-accepted x .ready)
+accepted-here : {g : MempoolConfig} {s₀ : List ℕ} (m : HostMoment) → Started (m .entries) (m .boxes) (m .cache) (length (m .peers)) s₀ (m .state) 0 → configOf s₀ ≡ g → started (sizesAt (decoded m)) g ≡ Ready (decoded m .state)
+accepted-here {g} {s₀} m x c = rw (← c) (start-accepted x .ready)
 
 pub host-told : {g : MempoolConfig} {h : List Heard} {m : HostMoment} → HostRun g h m → Told g h (decoded m)
 host-told {g} (begins m x c one) = told-begin g (decoded m) (start-begins (decoded m) g (accepted-here m x c)) one

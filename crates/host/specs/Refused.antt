@@ -1,14 +1,12 @@
 -- A refusal as words: "Unless said, nothing changes and no answer byte is written." A number that says no success, and 'verdict needed' as well, leaves
 -- every word that was lent, and of the state all but word 24, which is 0. Of a submission 9, 10, 29 and 30 are apart: `Spares` says what they leave.
-use Prim.Native.Nat.{ℕ, _+_, _*_, _/_, _<_}
-use mathlib.Core.Path.{_≡_, refl, sym, ap, subst, _∙_}
+use Prim.Native.Nat.{ℕ}
+use mathlib.Core.Path.{_≡_, refl, sym, ap, _∙_}
 use mathlib.Core.Bool.{true, false}
 use mathlib.Core.List.{List, [], _∷_}
 use native.Mathlib.Omega.{arith}
-use native.Mathlib.Decide.{ℕ-discrete}
 use lib.Dec.{eqb}
-use lib.ListN.{length, getD, set}
-use lib.Seq.{ext-getD}
+use lib.ListN.{set}
 use borrow.Author.Tests.{ne-eqb}
 use Rattle.pool_types.specs.declared.Verdict.{Verdict}
 use Rattle.pool_types.specs.declared.ProcessingOutcome.{ProcessingOutcome}
@@ -26,9 +24,6 @@ use Rattle.pool_types.specs.declared.NextOutcome.the-variants.{Candidate, Ended
 use Rattle.pool_types.specs.declared.AnswerOutcome.{AnswerOutcome}
 use Rattle.pool_types.specs.declared.AnswerOutcome.the-variants.{InputMissing, AnswerNeeded, FoundInvalid, FoundValid, NotAnswered}
 use Rattle.pool_types.specs.Outcomes.{processedOf, returnedOf, invalidatedOf, blockOf, openedOf, nextOf, answeredOf}
-use Rattle.peers.specs.Peers.{peerOf}
-use Rattle.peers.specs.Flat.{records, flats, flat-at}
-use Rattle.peers.specs.declared.PeerRecord.{PeerRecord}
 use Rattle.boxes.specs.Among.{among}
 use Rattle.store.specs.Spares.{Spared, spared-all}
 use Rattle.store.specs.Spares.{Lent as Held}
@@ -59,31 +54,12 @@ plain l j h p q r s x = nothing j (is-not l j 9 h p) (is-not l j 10 h q) (is-not
 
 -- ---- a submission
 
--- words that hold the same records are the same words, where there is no odd one
-module _ (p q : List ℕ) (k : length q ≡ length p) (e : records q ≡ records p) where
-  same-record : (j : ℕ) → j < length p / 2 → peerOf (getD q (j * 2) 0) (getD q (j * 2 + 1) 0) ≡ peerOf (getD p (j * 2) 0) (getD p (j * 2 + 1) 0)
-  same-record j h =
-      sym (flat-at q j)
-      ∙ sym (flats .get q (length q / 2) j (peerOf 0 0) (omega arith))
-      ∙ ap (λ (x : List PeerRecord). getD x j (peerOf 0 0)) e
-      ∙ flats .get p (length p / 2) j (peerOf 0 0) h
-      ∙ flat-at p j
-
-  same-peers : length p / 2 * 2 ≡ length p → q ≡ p
-  same-peers whole = ext-getD 0 q p k (λ i h. go i h (ℕ-discrete (i / 2 * 2) i))
-    where
-      go : (i : ℕ) → i < length q → Dec (i / 2 * 2 ≡ i) → getD q i 0 ≡ getD p i 0
-      go i h (yes z) = subst (λ (n : ℕ). getD q n 0 ≡ getD p n 0) z (ap (λ (r : PeerRecord). r .peer) (same-record (i / 2) (omega arith)))
-      go i h (no z) =
-          let y : i / 2 * 2 + 1 ≡ i = omega (arith, z) in
-          subst (λ (n : ℕ). getD q n 0 ≡ getD p n 0) y (ap (λ (r : PeerRecord). r .cost) (same-record (i / 2) (omega arith)))
-
--- what was lent is what it was, the peers as whole records of two words, and so are the state's words
+-- what was lent is what it was, and so are the state's words
 pub record Left (w₀ w : Lent) (s₀ s : List ℕ) : Type 0 where
   pub entries : w .entries ≡ w₀ .entries
   pub boxes : w .boxes ≡ w₀ .boxes
   pub cache : w .cache ≡ w₀ .cache
-  pub peers : length (w₀ .peers) / 2 * 2 ≡ length (w₀ .peers) → w .peers ≡ w₀ .peers
+  pub peers : w .peers ≡ w₀ .peers
   pub answer : w .answer ≡ w₀ .answer
   pub state : s ≡ set s₀ 24 0
 
@@ -119,7 +95,7 @@ module _ {w₀ w : Lent} {s₀ s sub ins outs : List ℕ} {code : ℕ} (x : Ran 
         entries = ap (λ (m : Held). m .entries) h;
         boxes = ap (λ (m : Held). m .boxes) h;
         cache = ap (λ (m : Held). m .cache) h;
-        peers = same-peers (w₀ .peers) (w .peers) (x .size) (ap (λ (m : Held). m .peers) h);
+        peers = ap (λ (m : Held). m .peers) h;
         answer = ap (λ (m : Held). m .answer) h;
         state = x .left .spared (ap (λ (m : Held). m .state) h) ∙ ap (set s₀ 24) (refusal-held .1);
       }

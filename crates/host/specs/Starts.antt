@@ -1,5 +1,5 @@
 -- What an exported start leaves: the answer of start to the settings that the words hold, and the words of an empty pool.
-use Prim.Native.Nat.{ℕ, _+_, _/_, _≤_, _<_}
+use Prim.Native.Nat.{ℕ, _+_, _≤_, _<_}
 use mathlib.Core.Path.{_≡_, refl, sym, ap, _∙_}
 use mathlib.Core.Bool.{Bool, true, false}
 use mathlib.Core.List.{List}
@@ -103,12 +103,12 @@ unfoldable pub Answered : StartOutcome → List ℕ → List ℕ → ℕ → Typ
 Answered (Ready st) s₀ s code = Emptied st s₀ s code
 Answered (NotStarted n) s₀ s code = Refused n s₀ s code
 
--- the sizes of the lent words; a peer record has two
-abbrev pub sizesOf : List ℕ → List ℕ → List ℕ → List ℕ → Sizes
-sizesOf e b k p = sizes (entriesRoom e) (boxesRoom b) (cacheRoom k) (length p / 2)
+-- the sizes of the lent words, and how many peer records are lent
+abbrev pub sizesOf : List ℕ → List ℕ → List ℕ → ℕ → Sizes
+sizesOf e b k p = sizes (entriesRoom e) (boxesRoom b) (cacheRoom k) p
 
 -- too few words for a state are refused with 1
-pub record Started (e b k p s₀ s : List ℕ) (code : ℕ) : Type 0 where
+pub record Started (e b k : List ℕ) (p : ℕ) (s₀ s : List ℕ) (code : ℕ) : Type 0 where
   pub short : length s₀ < 25 → Refused 1 s₀ s code
   pub begun : 25 ≤ length s₀ → Answered (started (sizesOf e b k p) (configOf s₀)) s₀ s code
 
@@ -125,7 +125,7 @@ ready-empty z c st q = go (sized z) (settled z c) q
     go true false e = absurd (differ 6 e)
     go false b e = absurd (differ 6 e)
 
-module _ (e b k p s₀ : List ℕ) where
+module _ (e b k : List ℕ) (p : ℕ) (s₀ : List ℕ) where
   pub start-short : length s₀ < 25 → Started e b k p s₀ s₀ 1
   start-short h = record { short = λ _. record { answered = refl; state = refl }; begun = λ g. absurd (omega arith) }
 

@@ -104,7 +104,7 @@ fn load_sums(s: &[u64]) -> Sums
     }
 }
 
-fn load_pass(s: &[u64]) -> Pass
+pub fn load_pass(s: &[u64]) -> Pass
     requires { ⌜ 25 ≤ length (now s) ⌝ }
     ensures { λ r. ⌜ r ≡ passOf (now (s .entry)) ⌝ }
 {

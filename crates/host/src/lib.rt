@@ -1,14 +1,15 @@
-// The pool's calls for C and Rust. A number passes as itself, a slice as a pointer and a length (in words): a slice named below is two
+// The pool's calls for C and Rust. A number passes as itself, a slice as a pointer and a length (in words, or in records): a slice named below is two
 // arguments, in this order. Nothing is required of the caller but that each slice lies in memory of its own; on words and lengths of any kind a
 // call is safe, and answers.
 //
 //     typedef uint64_t u64;
+//     typedef struct { u64 peer, cost; } PeerRecord;
 //     u64 gunthyd_fee_per_factor(u64 fee, u64 size, u64 cost, u64 by_cycle);
 //     u64 gunthyd_find_entry(const u64 *entries, size_t entries_len, size_t pooled, u64 a, u64 b, u64 c, u64 d);
 //     u64 gunthyd_start(const u64 *entries, size_t entries_len, const u64 *boxes, size_t boxes_len, const u64 *cache, size_t cache_len,
-//                       const u64 *peers, size_t peers_len, u64 *state, size_t state_len);
+//                       size_t peers, u64 *state, size_t state_len);
 //     u64 gunthyd_process(u64 *entries, size_t entries_len, u64 *boxes, size_t boxes_len, u64 *cache, size_t cache_len,
-//                         u64 *peers, size_t peers_len, u64 *answer, size_t answer_len, u64 *state, size_t state_len,
+//                         PeerRecord *peers, size_t peers_len, u64 *answer, size_t answer_len, u64 *state, size_t state_len,
 //                         const u64 *sub, size_t sub_len, const u64 *inputs, size_t inputs_len, const u64 *outputs, size_t outputs_len);
 //     u64 gunthyd_return_to_pool(u64 *entries, size_t entries_len, u64 *boxes, size_t boxes_len, u64 *state, size_t state_len,
 //                                const u64 *tx, size_t tx_len, const u64 *inputs, size_t inputs_len, const u64 *outputs, size_t outputs_len);
@@ -39,7 +40,7 @@
 //                                   u64 time, uint32_t bins, u64 longest);
 //
 // a, b, c, d are an id's four words, the first bytes first. Lent tables: 18 E + 2 words for E entries, 13 S + 2 for R box
-// records and 7 S + 2 for K cached ids, where S is 5/4 of R or K, rounded up, and 2 for each of 256 peers (docs/DECISIONS.md, D1). The last word of
+// records and 7 S + 2 for K cached ids, where S is 5/4 of R or K, rounded up, and 256 peer records (docs/DECISIONS.md, D1). The last word of
 // each of the first three is the key of its buckets: a number that peers do not know, put there before the start (D9c).
 // Lists: inputs 4 words each; outputs 7 of a submission, 5 of a return; transactions of a block 5 (D3, D4); flags, one word for each input of the
 // candidate, 0 for not confirmed; confirmed boxes 4. A verdict and its cost are two words as in a submission.
@@ -88,35 +89,26 @@ pub mod layout;
 pub mod passes;
 pub mod queries;
 pub mod statistics;
+pub mod submission;
 
-use crate::codes::code_of;
-use crate::codes::written_of;
 use crate::layout::STATE_WORDS;
-use crate::layout::SUBMISSION_WORDS;
 use crate::layout::clear;
 use crate::layout::load_config;
-use crate::layout::load_state;
-use crate::layout::load_submission;
-use crate::layout::store_left;
 use crate::layout::strategy_of;
-use crate::layout::too_few;
 use entries::fields::entries_room;
 use entries::table::Place;
 use entries::table::find_entry;
 use mempool::start;
 use pool_types::StartOutcome;
-use process::flat::process_words;
 use weight::fee_per_factor;
 use words::ids::Id;
 ghost use mathlib.Core.Path.{_≡_};
-ghost use Prim.Native.Nat.{_≤_, _<_};
-ghost use lib.ListN.{length};
+ghost use Prim.Native.Nat.{_<_};
 ghost use Rattle.weight.specs.Weight.{feePerFactor};
 ghost use Rattle.words.specs.Sums.{cap};
 ghost use Rattle.words.specs.Ids.{idOf};
 ghost use Rattle.entries.specs.Layout.{entriesRoom, EntriesKept};
 ghost use Rattle.host.specs.Host.{strategyOf, rankOf};
-ghost use Rattle.host.specs.Calls.{lent, Ran, Submitted};
 ghost use Rattle.host.specs.Starts.{Started};
 
 // ---- by numbers alone
@@ -161,16 +153,16 @@ pub extern "C" fn gunthyd_start(
     entries: &[u64],
     boxes: &[u64],
     cache: &[u64],
-    peers: &[u64],
+    peers: usize,
     state: &mut [u64],
 ) -> u64
-    ensures { λ r. ⌜ Started (now (entries .entry)) (now (boxes .entry)) (now (cache .entry)) (now (peers .entry)) (now (state .entry)) (now (state .exit)) r ⌝ }
+    ensures { λ r. ⌜ Started (now (entries .entry)) (now (boxes .entry)) (now (cache .entry)) peers (now (state .entry)) (now (state .exit)) r ⌝ }
 {
     if state.len() < STATE_WORDS {
         return 1;
     }
     let config = load_config(state);
-    let outcome = start(entries, boxes, cache, peers.len() / 2, config);
+    let outcome = start(entries, boxes, cache, peers, config);
     match outcome {
         StartOutcome::Ready(_) => {
             clear(state);
@@ -178,81 +170,4 @@ pub extern "C" fn gunthyd_start(
         }
         StartOutcome::NotStarted(n) => n,
     }
-}
-
-// ---- a submission
-
-// Reads, submits, stores back.
-fn submit(
-    entries: &mut [u64],
-    boxes: &mut [u64],
-    cache: &mut [u64],
-    peers: &mut [u64],
-    answer: &mut [u64],
-    state: &mut [u64],
-    sub: &[u64],
-    inputs: &[u64],
-    outputs: &[u64],
-) -> u64
-    requires { ⌜ 25 ≤ length (now state) ⌝ }
-    requires { ⌜ 11 ≤ length (now sub) ⌝ }
-    ensures { λ r. ⌜ Ran
-        (lent (now (entries .entry)) (now (boxes .entry)) (now (cache .entry)) (now (peers .entry)) (now (answer .entry)))
-        (lent (now (entries .exit)) (now (boxes .exit)) (now (cache .exit)) (now (peers .exit)) (now (answer .exit)))
-        (now (state .entry)) (now (state .exit)) (now (sub .entry)) (now (inputs .entry)) (now (outputs .entry)) r ⌝ }
-{
-    let mempool = load_state(state);
-    let submission = load_submission(sub);
-    let processed = process_words(
-        entries,
-        boxes,
-        cache,
-        peers,
-        answer,
-        mempool,
-        submission,
-        inputs,
-        outputs,
-    );
-    let left = processed.mempool;
-    let outcome = processed.outcome;
-    store_left(state, left, written_of(outcome));
-    code_of(outcome)
-}
-
-// Submits a transaction.
-#[no_mangle]
-pub extern "C" fn gunthyd_process(
-    entries: &mut [u64],
-    boxes: &mut [u64],
-    cache: &mut [u64],
-    peers: &mut [u64],
-    answer: &mut [u64],
-    state: &mut [u64],
-    sub: &[u64],
-    inputs: &[u64],
-    outputs: &[u64],
-) -> u64
-    ensures { λ r. ⌜ Submitted
-        (lent (now (entries .entry)) (now (boxes .entry)) (now (cache .entry)) (now (peers .entry)) (now (answer .entry)))
-        (lent (now (entries .exit)) (now (boxes .exit)) (now (cache .exit)) (now (peers .exit)) (now (answer .exit)))
-        (now (state .entry)) (now (state .exit)) (now (sub .entry)) (now (inputs .entry)) (now (outputs .entry)) r ⌝ }
-{
-    if state.len() < STATE_WORDS {
-        return 1;
-    }
-    if sub.len() < SUBMISSION_WORDS {
-        return too_few(state);
-    }
-    submit(
-        entries,
-        boxes,
-        cache,
-        peers,
-        answer,
-        state,
-        sub,
-        inputs,
-        outputs,
-    )
 }

@@ -7,8 +7,8 @@ use oracle::driver::{Driver, Stop, Submitted, PEERS};
 use oracle::forms::{hex, Form, Id, Output, Return, Settings, Tx, Verdict};
 use oracle::rng::Rng;
 use port::{
-    bucket_of, id_of, words_of, Block, GivenBack, Layout, Port, Row, Submission, APPLIED, BLOCK_TX_WORDS, BOXES, CACHE, CANDIDATE, DONE, ENDED, ENTRIES, FULL, ID_WORDS,
-    INPUT_WORDS, INVALID, MISSING, OUTPUT_WORDS, PEER_RECORDS, RETURN_OUTPUT_WORDS, VALID, VERDICT_NEEDED,
+    bucket_of, id_of, words_of, Block, GivenBack, Layout, PeerRecord, Port, Row, Submission, APPLIED, BLOCK_TX_WORDS, BOXES, CACHE, CANDIDATE, DONE, ENDED, ENTRIES, FULL, ID_WORDS,
+    INPUT_WORDS, INVALID, MISSING, OUTPUT_WORDS, PEER_RECORDS, PEER_WORDS, RETURN_OUTPUT_WORDS, VALID, VERDICT_NEEDED,
 };
 
 use crate::tally::{self, Tally};
@@ -87,9 +87,10 @@ impl<'a> Script<'a> {
         let name = shape.bytes().fold(0u64, |sum, b| sum.wrapping_mul(131).wrapping_add(b.into()));
         let mut rng = Rng::new(seed.wrapping_mul(0x9e37_79b9_7f4a_7c15) ^ name);
         // A start takes any words: what an earlier pool may have left.
-        for table in [&mut port.entries, &mut port.boxes, &mut port.cache, &mut port.peers] {
+        for table in [&mut port.entries, &mut port.boxes, &mut port.cache] {
             table.fill_with(|| rng.next());
         }
+        port.peers.fill_with(|| PeerRecord { peer: rng.next(), cost: rng.next() });
         port.answer.fill_with(|| rng.next());
         let word = rng.below(8) as usize;
         let spread = if word < 4 { Spread::In(word) } else { Spread::Everywhere };
@@ -611,11 +612,12 @@ impl<'a> Script<'a> {
     fn disturb_table(&mut self) {
         let used = self.port.used();
         let Port { entries, boxes, cache, peers, .. } = &mut *self.port;
+        let mut words: Vec<u64> = peers.iter().flat_map(|record| [record.peer, record.cost]).collect();
         let (table, layout, used) = match self.rng.below(9) {
             0..=2 => (entries, &ENTRIES, used[0]),
             3..=5 => (boxes, &BOXES, used[1]),
             6 | 7 => (cache, &CACHE, used[2]),
-            _ => (peers, &PEER_RECORDS, used[3]),
+            _ => (&mut words, &PEER_RECORDS, used[3]),
         };
         let slots = layout.slots(table.len());
         // The word that tells how many are used may be disturbed too.
@@ -624,6 +626,9 @@ impl<'a> Script<'a> {
         let other = table[some_word(&mut self.rng, layout, table, used)];
         let (slot, any, slots) = (self.rng.below(used as u64 + 3), self.rng.next(), slots as u64);
         table[at] = self.rng.pick(&[0, 1, 2, slots - 1, slots, slots + 1, u64::MAX, any, other, other, slot, slot, slot]);
+        for (record, word) in peers.iter_mut().zip(words.chunks(PEER_WORDS)) {
+            *record = PeerRecord { peer: word[0], cost: word[1] };
+        }
     }
 
     /// A call of any kind to the port alone, mostly a submission: the numbers that its kind answers, and what it says.

@@ -13,7 +13,7 @@ use oracle::forms::{Id, Return, Settings, Tx, Verdict};
 // boxes: S slots for S * 4 / 5 records, 11 words each, in order of entry: id of the box (4), kind (0 an input, 1 an output, 2 vacated, 3 a hidden input, others a
 // hidden output), link among boxes, id of its owner (4), link among owners; S heads of buckets of boxes; S of buckets of owners; how many slots are used; the key.
 // cache: S slots for S * 4 / 5 ids, 7 words each, oldest first: id (4), since, link, head; the first slot that is held; the key.
-// peers: 2 words for each: peer, sum.
+// peers: records, of two words each: peer, sum.
 
 /// Where the head of a bucket stands: at a word of the slot with the bucket's number, or in a column behind all slots.
 #[derive(Clone, Copy)]
@@ -96,11 +96,6 @@ pub const fn cache_words(ids: usize) -> usize {
     CACHE.words(slots(ids))
 }
 
-/// The words of so many peer records.
-pub const fn peers_words(records: usize) -> usize {
-    PEER_RECORDS.words(records)
-}
-
 pub const PEER_WORDS: usize = 2;
 pub const INPUT_WORDS: usize = 5;
 pub const OUTPUT_WORDS: usize = 7;
@@ -143,6 +138,14 @@ const WRITTEN: usize = 24;
 const STATE_WORDS: usize = 25;
 const STATS_WORDS: usize = 124;
 
+/// A peer and what it was charged since the last block.
+#[repr(C)]
+#[derive(Clone, Copy, Default)]
+pub struct PeerRecord {
+    pub peer: u64,
+    pub cost: u64,
+}
+
 extern "C" {
     fn gunthyd_start(
         entries: *const u64,
@@ -151,8 +154,7 @@ extern "C" {
         boxes_len: usize,
         cache: *const u64,
         cache_len: usize,
-        peers: *const u64,
-        peers_len: usize,
+        peers: usize,
         state: *mut u64,
         state_len: usize,
     ) -> u64;
@@ -163,7 +165,7 @@ extern "C" {
         boxes_len: usize,
         cache: *mut u64,
         cache_len: usize,
-        peers: *mut u64,
+        peers: *mut PeerRecord,
         peers_len: usize,
         answer: *mut u64,
         answer_len: usize,
@@ -485,7 +487,7 @@ pub struct Port {
     pub entries: Vec<u64>,
     pub boxes: Vec<u64>,
     pub cache: Vec<u64>,
-    pub peers: Vec<u64>,
+    pub peers: Vec<PeerRecord>,
     pub answer: Vec<u64>,
     pub state: [u64; STATE_WORDS],
     pub stats: [u64; STATS_WORDS],
@@ -497,7 +499,7 @@ impl Port {
             entries: vec![0; entries_words(store.entries)],
             boxes: vec![0; boxes_words(store.records)],
             cache: vec![0; cache_words(store.cache_ids)],
-            peers: vec![0; peers_words(PEERS)],
+            peers: vec![PeerRecord::default(); PEERS],
             answer: vec![0; store.answer_words],
             state: [0; STATE_WORDS],
             stats: [0; STATS_WORDS],
@@ -509,7 +511,7 @@ impl Port {
         self.entries.resize(entries_words(sizes[0]), 0);
         self.boxes.resize(boxes_words(sizes[1]), 0);
         self.cache.resize(cache_words(sizes[2]), 0);
-        self.peers.resize(peers_words(sizes[3]), 0);
+        self.peers.resize(sizes[3], PeerRecord::default());
     }
 
     /// The key of the tables' buckets, which no answer depends on: the last word of each table. To be set before a start.
@@ -534,7 +536,7 @@ impl Port {
         ];
         self.state[..settings.len()].copy_from_slice(&settings);
         let Port { entries, boxes, cache, peers, state, .. } = self;
-        let code = call!(gunthyd_start(ref entries, ref boxes, ref cache, ref peers, mut state));
+        let code = call!(gunthyd_start(ref entries, ref boxes, ref cache, peers.len(), mut state));
         if code == 0 {
             let stats = call!(gunthyd_start_stats(mut self.stats, 0));
             assert_eq!(stats, 0);
@@ -692,7 +694,7 @@ impl Port {
     /// The peers that have a record, each with its sum.
     pub fn peer_sums(&self) -> Vec<(u64, u64)> {
         let used = self.state[PEERS_USED] as usize;
-        self.peers.chunks(PEER_WORDS).take(used).map(|p| (p[0], p[1])).collect()
+        self.peers.iter().take(used).map(|p| (p.peer, p.cost)).collect()
     }
 
     /// What a pass stamps, in priority order: the measured cost, and when it was last checked; and when the entry was made.
