@@ -1,6 +1,7 @@
 -- Loops over the records of a list: what is folded and what is left are the whole.
 use Prim.Native.Nat.{ℕ, zero, suc, _+_, _-_, _*_, _≤_, _<_, _/_, max, min}
 use mathlib.Core.Path.{_≡_, refl, sym, ap, _∙_}
+use mathlib.Core.Bool.{Bool, false, _&&_}
 use mathlib.Core.List.{List}
 use native.Mathlib.Nat.{suc-mul, mul-le-mul-right, div-mul-le-self, div-le-self}
 use native.Mathlib.Numerals.{add-one}
@@ -12,6 +13,10 @@ use Rattle.words.specs.Sums.{cap, capped}
 use Rattle.arguments.specs.Arguments.{feeAt, feeFrom, feeOf, feeSum, field, biased, highFrom, heightKey, totalFrom, countsAgree, records}
 use Rattle.arguments.specs.declared.FeeSum.{FeeSum}
 use Rattle.arguments.specs.declared.FeeSum.the-variants.{Sum, Beyond}
+
+-- of two lists the first is not whole
+pub not-first : (a b : Bool) → a ≡ false → false ≡ (a && b)
+not-first a b p = rw p
 
 -- a record's words are in the list, and there are no more records than words
 pub in-list : (W i : ℕ) (l : List ℕ) → i < records W l → i * W + W ≤ length l

@@ -1,6 +1,7 @@
 // The lists that calls bring, read record by record.
 use words::sums::saturating_add;
 ghost use mathlib.Core.Path.{_≡_};
+ghost use mathlib.Core.Bool.{_&&_};
 ghost use Prim.Native.Nat.{_+_, _*_, _<_, _≤_, _/_};
 ghost use lib.ListN.{length};
 ghost use Rattle.arguments.specs.Arguments.{whole, records, field, feeAt, feeSum, biased, heightKey, countsAgree};
@@ -17,6 +18,17 @@ pub fn is_whole(list: &[u64], width: usize) -> bool
     ensures { λ r. ⌜ r ≡ whole width (now (list .entry)) ⌝ }
 {
     list.len() % width == 0
+}
+
+// Whether both lists are whole numbers of records.
+pub fn are_whole(inputs: &[u64], in_width: usize, outputs: &[u64], out_width: usize) -> bool
+    requires { ⌜ (0 < «in_width») × (0 < «out_width») ⌝ }
+    ensures { λ r. ⌜ r ≡ (whole «in_width» (now (inputs .entry)) && whole «out_width» (now (outputs .entry))) ⌝ }
+{
+    if is_whole(inputs, in_width) {
+        return is_whole(outputs, out_width);
+    }
+    false
 }
 
 pub fn count_records(list: &[u64], width: usize) -> usize

@@ -1,7 +1,7 @@
 -- Laws of the tests: how a chain of them is answered, and what the code's tests say where they are not word for word the definitions'.
 use Prim.Native.Nat.{ℕ, _+_, _≤_, _<_}
 use mathlib.Core.Path.{_≡_, refl, sym, _∙_}
-use mathlib.Core.Bool.{Bool, true, false, not, _&&_}
+use mathlib.Core.Bool.{Bool, true, false}
 use mathlib.Core.List.{List}
 use native.Mathlib.Omega.{arith}
 use lib.Dec.{ltb}
@@ -27,10 +27,6 @@ pub neither : {A : Type 0} {b : Bool} → b ≡ false → b ≡ true → A
 neither p q = let z : _≡_ {A = ℕ} 0 1 = cc in absurd (omega arith)
 
 -- ---- single tests
-
--- 1: of two lists the first is not whole
-pub not-first : (a b : Bool) → a ≡ false → false ≡ (a && b)
-not-first a b p = rw p
 
 -- 2: a buffer of `room` ids against n pooled and one more
 pub short : (room n : ℕ) → room ≤ n → ltb room (n + 1) ≡ true
@@ -58,8 +54,3 @@ module _ (outs : List ℕ) where
 
   pub fee-within : {s : FeeSum} (n : ℕ) → s ≡ feeSum outs → s ≡ Sum n → false ≡ ltb cap (feeOf outs)
   fee-within {s} n e p = says (Sum n) (sym p ∙ e)
-
--- 27: the code tests for room
-pub not-not : (b : Bool) → not (not b) ≡ b
-not-not true = refl
-not-not false = refl

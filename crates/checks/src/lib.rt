@@ -1,20 +1,19 @@
 // The tests of a submission up to its verdict. Each function gives the number of the first test that fails, and 0 where none does.
 use arguments::FeeSum;
+use arguments::are_whole;
 use arguments::count_records;
 use arguments::extract_fee;
 use arguments::height_key;
 use arguments::height_order;
-use arguments::is_whole;
 use entries::table::is_pooled;
 use expiring_cache::contains;
 use indexes::resolved::inputs_resolved;
 use peers::Standing;
-use pool::room_for;
-use pool_types::Counts;
 use pool_types::Mempool;
 use pool_types::Source;
 use pool_types::Submission;
 use pool_types::Verdict;
+use store::lacks_room;
 ghost use mathlib.Core.Path.{_≡_};
 ghost use mathlib.Core.Bool.{true, false, _&&_};
 ghost use mathlib.Core.List.{_∷_};
@@ -43,16 +42,6 @@ const MAX_TX_INPUTS: usize = 5000;
 const PEER_RECORDS: usize = 256;
 
 // ---- what the call brings
-
-// Whether both lists are whole numbers of records.
-fn are_whole(inputs: &[u64], outputs: &[u64]) -> bool
-    ensures { λ r. ⌜ r ≡ (whole 5 (now (inputs .entry)) && whole 7 (now (outputs .entry))) ⌝ }
-{
-    if is_whole(inputs, 5) {
-        return is_whole(outputs, 7);
-    }
-    false
-}
 
 // Whether the flagged values add up to more than a word holds.
 fn is_fee_beyond(outputs: &[u64]) -> bool
@@ -88,7 +77,7 @@ fn check_call(
     if mempool.pass.open {
         return 20;
     }
-    if !are_whole(inputs, outputs) {
+    if !are_whole(inputs, 5, outputs, 7) {
         return 1;
     }
     if room <= mempool.counts.pooled {
@@ -177,22 +166,6 @@ fn is_ahead(outputs: &[u64], preheader: u32) -> bool
     height_order(preheader as u64) < height_key(outputs, 7, 6)
 }
 
-// Whether the newcomer's entry, or the records of its inputs and outputs, find no room.
-fn lacks_room(
-    entries: &[u64],
-    boxes: &[u64],
-    counts: Counts,
-    inputs: &[u64],
-    outputs: &[u64],
-) -> bool
-    requires { ⌜ PoolFits (now entries) (now boxes) counts ⌝ }
-    ensures { λ r. ⌜ (r ≡ false → Room (now (entries .entry)) (now (boxes .entry)) counts (records 5 (now (inputs .entry)) + records 7 (now (outputs .entry)))) ⌝ }
-    ensures { λ r. ⌜ (BoxesKept (now (boxes .entry)) (counts .records) → r ≡ noRoom (entriesRoom (now (entries .entry))) (boxesRoom (now (boxes .entry))) (tablesOf (now (entries .entry)) (now (boxes .entry)) counts) (records 5 (now (inputs .entry)) + records 7 (now (outputs .entry)))) ⌝ }
-{
-    let needed = count_records(inputs, 5) + count_records(outputs, 7);
-    !room_for(entries, boxes, counts, needed)
-}
-
 // Refusals 7, 27, 28, 8.
 fn check_lists(
     entries: &[u64],
@@ -211,7 +184,7 @@ fn check_lists(
         return 7;
     }
     let counts = mempool.counts;
-    if lacks_room(entries, boxes, counts, inputs, outputs) {
+    if lacks_room(entries, boxes, counts, inputs, 5, outputs, 7) {
         return 27;
     }
     if !inputs_resolved(boxes, counts.records, inputs) {

@@ -30,15 +30,6 @@ use Rattle.returns.specs.declared.UnconfirmedTx.{UnconfirmedTx}
 
 -- ---- single tests
 
--- 1: of two lists the first is not whole
-pub not-first : (a b : Bool) → a ≡ false → false ≡ (a && b)
-not-first a b p = rw p
-
--- 27: the code tests for room
-pub not-not : (b : Bool) → not (not b) ≡ b
-not-not true = refl
-not-not false = refl
-
 -- 23 and 27, by what the calls before them gave
 pub last-two : {r : ℕ} (a b : Bool) {x y : Bool} → r ≡ pick a 23 (pick b 27 0) → a ≡ x → b ≡ y → r ≡ pick x 23 (pick y 27 0)
 last-two a b e p q = rw (← p, ← q) e

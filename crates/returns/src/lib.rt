@@ -1,14 +1,13 @@
 // A return and an invalidation: a transaction that a rolled back block gives back to the pool, and one that was found invalid. The store is
 // plain words that the caller lends, the state goes in and out by value.
+use arguments::are_whole;
 use arguments::count_records;
 use arguments::height_key;
-use arguments::is_whole;
 use entries::fields::PoolEntry;
 use entries::fields::ValidationCost;
 use entries::table::is_pooled;
 use pool::fits;
 use pool::remove;
-use pool::room_for;
 use pool_types::Counts;
 use pool_types::InvalidateOutcome;
 use pool_types::Mempool;
@@ -16,6 +15,7 @@ use pool_types::MempoolConfig;
 use pool_types::ReturnOutcome;
 use pool_types::Source;
 use store::fits_cache;
+use store::lacks_room;
 use store::unfit;
 use weight::fee_per_factor;
 use words::ids::Id;
@@ -74,32 +74,6 @@ pub struct Invalidated {
 
 // ---- a return
 
-// Whether both lists are whole numbers of records.
-fn are_whole(inputs: &[u64], outputs: &[u64]) -> bool
-    ensures { λ r. ⌜ r ≡ (whole 4 (now (inputs .entry)) && whole 5 (now (outputs .entry))) ⌝ }
-{
-    if is_whole(inputs, 4) {
-        return is_whole(outputs, 5);
-    }
-    false
-}
-
-// Whether the entry, or the records of the inputs and outputs, find no room.
-fn lacks_room(
-    entries: &[u64],
-    boxes: &[u64],
-    counts: Counts,
-    inputs: &[u64],
-    outputs: &[u64],
-) -> bool
-    requires { ⌜ PoolFits (now entries) (now boxes) counts ⌝ }
-    ensures { λ r. ⌜ (r ≡ false → Room (now (entries .entry)) (now (boxes .entry)) counts (records 4 (now (inputs .entry)) + records 5 (now (outputs .entry)))) ⌝ }
-    ensures { λ r. ⌜ (BoxesKept (now (boxes .entry)) (counts .records) → r ≡ noRoom (entriesRoom (now (entries .entry))) (boxesRoom (now (boxes .entry))) (tablesOf (now (entries .entry)) (now (boxes .entry)) counts) (records 4 (now (inputs .entry)) + records 5 (now (outputs .entry)))) ⌝ }
-{
-    let needed = count_records(inputs, 4) + count_records(outputs, 5);
-    !room_for(entries, boxes, counts, needed)
-}
-
 // Refusals 23 and 27, in this order.
 fn pool_code(known: bool, full: bool) -> u64
     ensures { λ r. ⌜ r ≡ pick known 23 (pick full 27 0) ⌝ }
@@ -130,7 +104,7 @@ fn check_return(
     if mempool.pass.open {
         return 20;
     }
-    if !are_whole(inputs, outputs) {
+    if !are_whole(inputs, 4, outputs, 5) {
         return 1;
     }
     if MAX_TX_SIZE < tx.size {
@@ -138,7 +112,7 @@ fn check_return(
     }
     let counts = mempool.counts;
     let known = is_pooled(entries, counts.pooled, tx.id);
-    let full = lacks_room(entries, boxes, counts, inputs, outputs);
+    let full = lacks_room(entries, boxes, counts, inputs, 4, outputs, 5);
     pool_code(known, full)
 }
 

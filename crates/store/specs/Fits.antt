@@ -79,6 +79,10 @@ pub un-not : (t : Bool) → not t ≡ false → t ≡ true
 un-not true q = refl
 un-not false q = let z : _≡_ {A = ℕ} 0 1 = cc in absurd (omega arith)
 
+pub not-not : (t : Bool) → not (not t) ≡ t
+not-not true = refl
+not-not false = refl
+
 -- a test of the counts that a call made first: it was met, so what is known where it is not does not matter
 pub was-met : {A : Type 0} {t x : Bool} → t ≡ x → not t ≡ false → x ≡ false → A
 was-met {A} {t} {x} p q z = let y : false ≡ true = sym (p ∙ z) ∙ un-not t q in let w : _≡_ {A = ℕ} 0 1 = cc in absurd (omega arith)

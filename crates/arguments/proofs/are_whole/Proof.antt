@@ -1,9 +1,9 @@
--- `returns::are_whole` meets its contract: the second list is looked at where the first is whole. Assumes nothing.
+-- `arguments::are_whole` meets its contract: the second list is looked at where the first is whole. Assumes nothing.
 use borrow.Author.Needs.{needs}
 use mathlib.Core.Path.{sym, _∙_}
-use Rattle.returns.specs.Laws.{not-first}
-use Rattle.returns.proofs.are_whole.Statement.{statement}
-use Rattle.returns.proofs.are_whole.Tie as tie
+use Rattle.arguments.specs.Laws.{not-first}
+use Rattle.arguments.proofs.are_whole.Statement.{statement}
+use Rattle.arguments.proofs.are_whole.Tie as tie
 
 is-whole-requires : tie.Need-is-whole-requires
 is-whole-requires c κs = search needs
