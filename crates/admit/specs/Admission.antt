@@ -33,7 +33,8 @@ use Rattle.family.specs.Family.{propagated}
 use Rattle.answers.specs.Answers.{Wrote, wrote-nothing, wrote-both}
 use Rattle.admit.specs.Admit.{Admitted, costOf, loses, crowded, newcomer, joined, settled, seated, contested, admitSpec}
 use Rattle.admit.specs.Evictions.{Evicts}
-use Rattle.admit.specs.Placed.{writtenOf, ofAdmission}
+use Rattle.admit.specs.Placed.{ofAdmission}
+use Rattle.pool_types.specs.Outcomes.{writtenOf}
 use Rattle.admit.specs.declared.admission.Admission.{Admission}
 use Rattle.admit.specs.declared.evictions.Evicted.{Evicted}
 

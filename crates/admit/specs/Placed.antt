@@ -12,7 +12,7 @@ use Rattle.words.specs.Lists.{pick, count, flat, Once, once-head, once-tail, co
 use Rattle.words.specs.Find.{without, found, putBack}
 use Rattle.pool_types.specs.declared.MempoolConfig.{MempoolConfig}
 use Rattle.pool_types.specs.declared.Submission.{Submission}
-use Rattle.pool_types.specs.Outcomes.{Outcome, refused, done, wrote, needed, candidate, ended, missing, invalid, valid, number, said, entry, none}
+use Rattle.pool_types.specs.Outcomes.{Outcome, refused, done, wrote, needed, candidate, ended, missing, invalid, valid, number, said, entry, none, writtenOf}
 use Rattle.arguments.specs.Arguments.{feeOf}
 use Rattle.entries.specs.Entries.{Entry, weightOf, keyOf, insertBy, pooled, raised, credit}
 use Rattle.entries.specs.Order.{length-insert}
@@ -26,22 +26,6 @@ use Rattle.pool.specs.Pool.{Tables, insertTx, removeTx, removeAll, dropLow, low
 use Rattle.pool.specs.Ok.{Ok}
 use Rattle.family.specs.Chains.{walked}
 use Rattle.admit.specs.Admit.{Admitted, loses, crowded, newcomer, joined, settled, seated, contested, baseOf, admitSpec}
-
--- how many ids an outcome says it wrote
-unfoldable pub writtenOf : Outcome → ℕ
-writtenOf (refused j i) = i
-writtenOf (wrote n) = n
-writtenOf done = 0
-writtenOf needed = 0
-writtenOf (candidate k) = 0
-writtenOf (ended n) = 0
-writtenOf (missing k) = 0
-writtenOf (invalid k) = 0
-writtenOf (valid k) = 0
-writtenOf (number n) = 0
-writtenOf (said t) = 0
-writtenOf (entry k w b) = 0
-writtenOf none = 0
 
 -- the outcomes of an admission: no other refusal than 10, 29 and 30
 unfoldable pub ofAdmission : Outcome → Bool

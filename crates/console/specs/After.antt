@@ -13,7 +13,8 @@ use Rattle.pool_types.specs.Outcomes.{Outcome}
 use Rattle.pool_types.specs.declared.Mempool.{Mempool}
 use Rattle.stats.specs.declared.FeeStats.{FeeStats}
 use Rattle.cleanup.specs.Passes.{passOf}
-use Rattle.console.specs.Console.{Line, same, writtenIn}
+use Rattle.console.specs.Console.{Line, same}
+use Rattle.pool_types.specs.Outcomes.{writtenOf}
 use Rattle.console.specs.declared.Kept.{Kept}
 use Rattle.console.specs.declared.Told.{Told}
 
@@ -28,7 +29,7 @@ pub record ToldOf (a : List ℕ) (m : Mempool) (s : FeeStats) (n : Outcome) (tex
   pub ready : t .kept .ready ≡ true
   pub mempool : t .kept .mempool ≡ m
   pub stats : t .kept .stats ≡ s
-  pub written : t .kept .written ≡ min (writtenIn n) (length a / 4)
+  pub written : t .kept .written ≡ min (writtenOf n) (length a / 4)
   pub prints : Prints (text (idsTo 4 a (t .kept .written))) 0 o₀ o (t .len)
 
 pub record After (e b k p a o₀ o : List ℕ) (t : Told) (m : Line) : Type 0 where

@@ -19,7 +19,7 @@ use Rattle.pool_types.specs.declared.StartOutcome.{StartOutcome}
 use Rattle.pool_types.specs.declared.StartOutcome.the-variants.{Ready, NotStarted}
 use Rattle.pool_types.specs.declared.Verdict.{Verdict}
 use Rattle.pool_types.specs.declared.Verdict.the-variants.{Valid, Invalid, Absent}
-use Rattle.pool_types.specs.Outcomes.{Outcome, refused, done, wrote, needed, candidate, ended, missing, invalid, valid, number, said, entry, none}
+use Rattle.pool_types.specs.Outcomes.{Outcome, refused, done, wrote, needed, candidate, ended, missing, invalid, valid, number, said, entry, none, writtenOf}
 use Rattle.entries.specs.Layout.{entriesRoom}
 use Rattle.entries.specs.declared.fields.ValidationCost.{ValidationCost}
 use Rattle.entries.specs.declared.fields.ValidationCost.the-variants.{Unmeasured, Measured}
@@ -152,22 +152,6 @@ txText (number n) x ks = []
 txText (said b) x ks = []
 txText (entry k w b) x ks = []
 txText none x ks = []
-
--- how many ids an outcome says were written
-unfoldable pub writtenIn : Outcome → ℕ
-writtenIn (refused n k) = k
-writtenIn (wrote k) = k
-writtenIn done = 0
-writtenIn needed = 0
-writtenIn (candidate k) = 0
-writtenIn (ended n) = 0
-writtenIn (missing k) = 0
-writtenIn (invalid k) = 0
-writtenIn (valid k) = 0
-writtenIn (number n) = 0
-writtenIn (said b) = 0
-writtenIn (entry k w b) = 0
-writtenIn none = 0
 
 -- a call that says no more than that it was done, or how much it wrote: it prints t, and a refused one its number; what is no outcome of such a
 -- call prints nothing

@@ -62,7 +62,8 @@ use Rattle.console.specs.declared.calls.Change.{Change}
 use Rattle.console.specs.declared.calls.Query.{Query}
 use Rattle.console.specs.declared.calls.Words.{Words}
 use Rattle.console.specs.Calls.{lacksPool, wordsOf}
-use Rattle.console.specs.Console.{Line, wReady, wNoPool, wIds, refusedText, sentText, unreadText, txText, orRefused, removedText, passText, writtenIn, configOf, noConfig, nothing, processedLine, appliedLine, doneLine, passLine, altered, startedLine, same, asked, called, lineOf}
+use Rattle.console.specs.Console.{Line, wReady, wNoPool, wIds, refusedText, sentText, unreadText, txText, orRefused, removedText, passText, configOf, noConfig, nothing, processedLine, appliedLine, doneLine, passLine, altered, startedLine, same, asked, called, lineOf}
+use Rattle.pool_types.specs.Outcomes.{writtenOf}
 use Rattle.console.specs.Texts.{prints-as, list-count, list-text, list-refused}
 use Rattle.replies.specs.Replies.{listed}
 use Rattle.console.specs.After.{Holds, After, ToldOf}
@@ -72,25 +73,25 @@ use Rattle.console.specs.declared.Told.{Told}
 -- ---- a submission's outcome says how many ids it wrote
 
 record SaysAdmitted (room : ℕ) (d : Admitted) : Type 0 where
-  is : writtenIn (d .outcome) ≡ min room (length (d .written))
+  is : writtenOf (d .outcome) ≡ min room (length (d .written))
 
 record SaysResult (room : ℕ) (r : Result) : Type 0 where
-  is : writtenIn (r .outcome) ≡ min room (length (r .written))
+  is : writtenOf (r .outcome) ≡ min room (length (r .written))
 
 picked : {room : ℕ} (t : Bool) (x y : Admitted) → SaysAdmitted room x → SaysAdmitted room y → SaysAdmitted room (pick t x y)
 picked true x y p q = p
 picked false x y p q = q
 
 stopped : {room : ℕ} (n : ℕ) (t : Tables) → SaysAdmitted room (record { outcome = refused n 0; tables = t; written = [] })
-unfolding writtenIn
+unfolding writtenOf
 stopped n t = record { is = omega arith }
 
 lost : (room : ℕ) (ks : List ℕ) (t : Tables) → SaysAdmitted room (record { outcome = refused 29 (min room (length ks)); tables = t; written = ks })
-unfolding writtenIn
+unfolding writtenOf
 lost room ks t = record { is = refl }
 
 says-settled : (room capacity : ℕ) (ks : List ℕ) (t : Tables) → SaysAdmitted room (settled room capacity ks t)
-unfolding settled writtenIn
+unfolding settled writtenOf
 says-settled room capacity [] t = record { is = omega arith }
 says-settled room capacity (k ∷ ks) t = record { is = ap (min room) (sym (length-append (k ∷ ks) (evicted capacity t))) }
 
@@ -114,17 +115,17 @@ says-admitted visits room g t a c ins outs =
     (stopped 10 t) (says-contested visits room (g .capacity) (newcomer a c (baseOf g a c outs) ins outs) ins outs (conflicts (index false (t .boxes)) (idsOf 5 ins)) t)
 
 says-judged : (visits room : ℕ) (st : Mempool) (w : World) (a : Submission) (ins outs : List ℕ) (v : Verdict) → SaysResult room (judged visits room st w a ins outs v)
-unfolding judged writtenIn
+unfolding judged writtenOf
 says-judged visits room st w a ins outs Absent = record { is = omega arith }
 says-judged visits room st w a ins outs Invalid = record { is = omega arith }
 says-judged visits room st w a ins outs (Valid c) = let h = says-admitted visits room (st .config) (w .tables) a c ins outs in record { is = h .is }
 
 unless : (room n : ℕ) (r : Result) (w : World) (t : Bool) → SaysResult room r → SaysResult room (pick t r (unchanged (refused n 0) w))
-unfolding writtenIn
+unfolding writtenOf
 unless room n r w true q = q
 unless room n r w false q = record { is = omega arith }
 
-pub says-processed : (m : Limits) (st : Mempool) (w : World) (room : ℕ) (a : Submission) (ins outs : List ℕ) → writtenIn (processed m st w room a ins outs .outcome) ≡ min room (length (processed m st w room a ins outs .written))
+pub says-processed : (m : Limits) (st : Mempool) (w : World) (room : ℕ) (a : Submission) (ins outs : List ℕ) → writtenOf (processed m st w room a ins outs .outcome) ≡ min room (length (processed m st w room a ins outs .written))
 unfolding processed
 says-processed m st w room a ins outs =
     let n = refusalOf (m .inputs) (m .entries) (m .boxes) st room (w .tables) (w .cache) (standingOf (a .source) (w .peers)) a ins outs in
@@ -178,7 +179,7 @@ take-min n m l q = rw q (go (native.Mathlib.Decide.decLe n (length l)))
     go (no p) = let z : min n (length l) ≡ length l = omega (arith, p) in rw z (take-all (length l) l (omega arith) ∙ sym (take-all n l (omega (arith, p))))
 
 -- .. and is what is held of them then
-module _ (a a' ks : List ℕ) (n : Outcome) (y : writtenIn n ≡ min (length a / 4) (length ks)) (d : Wrote a a' 0 ks) {m : Mempool} {s : FeeStats} {text : List ℕ → List ℕ} {o₀ o : List ℕ} (t : Told) (w : ToldOf a' m s n text o₀ o t) where
+module _ (a a' ks : List ℕ) (n : Outcome) (y : writtenOf n ≡ min (length a / 4) (length ks)) (d : Wrote a a' 0 ks) {m : Mempool} {s : FeeStats} {text : List ℕ → List ℕ} {o₀ o : List ℕ} (t : Told) (w : ToldOf a' m s n text o₀ o t) where
   count-is : t .kept .written ≡ min (length ks) (countOf 4 a)
   count-is = omega (arith, w .written, y, d .kept)
 
@@ -187,10 +188,10 @@ module _ (a a' ks : List ℕ) (n : Outcome) (y : writtenIn n ≡ min (length a /
 
 -- ---- a submission's line
 
-module _ (e b k p a e' b' k' p' a' : List ℕ) (h : Kept) (r : Processed) (s : Result) (d : Post (h .mempool) r e' b' k' (records p') a a' s) (y : writtenIn (s .outcome) ≡ min (length a / 4) (length (s .written)))
+module _ (e b k p a e' b' k' p' a' : List ℕ) (h : Kept) (r : Processed) (s : Result) (d : Post (h .mempool) r e' b' k' (records p') a a' s) (y : writtenOf (s .outcome) ≡ min (length a / 4) (length (s .written)))
     (x : ℕ) (o₀ o : List ℕ) (t : Told) (w : ToldOf a' (r .mempool) (h .stats) (processedOf (r .outcome)) (txText (processedOf (r .outcome)) x) o₀ o t) where
   held-processed : idsTo 4 a' (t .kept .written) ≡ take (countOf 4 a) (s .written)
-  held-processed = held a a' (s .written) (processedOf (r .outcome)) (ap writtenIn (d .outcome) ∙ y) (d .wrote) t w
+  held-processed = held a a' (s .written) (processedOf (r .outcome)) (ap writtenOf (d .outcome) ∙ y) (d .wrote) t w
 
   pub after-processed : After e' b' k' p' a' o₀ o t (processedLine e b k p a h s x)
   unfolding processedLine
@@ -216,21 +217,21 @@ after-cut e b k p a e' b' k' p' a' o₀ o h t f s g c n m x v w q = rw (← x, �
 
 -- ---- a block's line
 
-pub says-applied : (st : Mempool) (w : World) (s : FeeStats) (room time : ℕ) (txs ins : List ℕ) → writtenIn (applied st w s room time txs ins .result .outcome) ≡ length (applied st w s room time txs ins .result .written)
-unfolding applied blocks.settled writtenIn
+pub says-applied : (st : Mempool) (w : World) (s : FeeStats) (room time : ℕ) (txs ins : List ℕ) → writtenOf (applied st w s room time txs ins .result .outcome) ≡ length (applied st w s room time txs ins .result .written)
+unfolding applied blocks.settled writtenOf
 says-applied st w s room time txs ins = go (eqb (blockRefusal st room txs ins) 0)
   where
-    go : (t : Bool) → writtenIn (pick t (blocks.settled st w time (appliedTxs time (confirmedOf txs ins) (begun w s))) (record { result = unchanged (refused (blockRefusal st room txs ins) 0) w; stats = s }) .result .outcome)
+    go : (t : Bool) → writtenOf (pick t (blocks.settled st w time (appliedTxs time (confirmedOf txs ins) (begun w s))) (record { result = unchanged (refused (blockRefusal st room txs ins) 0) w; stats = s }) .result .outcome)
         ≡ length (pick t (blocks.settled st w time (appliedTxs time (confirmedOf txs ins) (begun w s))) (record { result = unchanged (refused (blockRefusal st room txs ins) 0) w; stats = s }) .result .written)
     go true = refl
     go false = refl
 
 -- each id that it wrote has its place, so all are held
 module _ (e b k p a e' b' k' a' : List ℕ) (h : Kept) (r : Applied) (s : BlockResult) (d : BlockPost (h .mempool) r e' b' k' (records p) a a' s)
-    (y : writtenIn (s .result .outcome) ≡ length (s .result .written)) (o₀ o : List ℕ) (t : Told) (w : ToldOf a' (r .mempool) (r .stats) (blockOf (r .outcome)) (removedText (blockOf (r .outcome))) o₀ o t) where
+    (y : writtenOf (s .result .outcome) ≡ length (s .result .written)) (o₀ o : List ℕ) (t : Told) (w : ToldOf a' (r .mempool) (r .stats) (blockOf (r .outcome)) (removedText (blockOf (r .outcome))) o₀ o t) where
   held-removed : idsTo 4 a' (t .kept .written) ≡ s .result .written
   held-removed =
-      held a a' (s .result .written) (blockOf (r .outcome)) (let z : writtenIn (blockOf (r .outcome)) ≡ length (s .result .written) = ap writtenIn (d .outcome) ∙ y in omega (arith, z, d .placed)) (d .wrote) t w
+      held a a' (s .result .written) (blockOf (r .outcome)) (let z : writtenOf (blockOf (r .outcome)) ≡ length (s .result .written) = ap writtenOf (d .outcome) ∙ y in omega (arith, z, d .placed)) (d .wrote) t w
       ∙ take-all (countOf 4 a) (s .result .written) (d .placed)
 
   pub after-applied : After e' b' k' p a' o₀ o t (appliedLine e b k p a h s)
@@ -249,11 +250,11 @@ module _ (e b k p a e' b' k' a' : List ℕ) (h : Kept) (r : Applied) (s : BlockR
 
 -- ---- a rebroadcast's text
 
-says-sent : (st : Mempool) (w : World) (room : ℕ) (c : List ℕ) → writtenIn (rebroadcast st w room c .outcome) ≡ length (rebroadcast st w room c .written)
-unfolding rebroadcast writtenIn
+says-sent : (st : Mempool) (w : World) (room : ℕ) (c : List ℕ) → writtenOf (rebroadcast st w room c .outcome) ≡ length (rebroadcast st w room c .written)
+unfolding rebroadcast writtenOf
 says-sent st w room c = go (eqb (rebroadcastRefusal st room c) 0)
   where
-    go : (t : Bool) → writtenIn (pick t (record { outcome = wrote (length (chosen (st .config .«rebroadcast_count») (idsOf 4 c) (w .tables))); world = w; written = chosen (st .config .«rebroadcast_count») (idsOf 4 c) (w .tables) }) (unchanged (refused (rebroadcastRefusal st room c) 0) w) .outcome)
+    go : (t : Bool) → writtenOf (pick t (record { outcome = wrote (length (chosen (st .config .«rebroadcast_count») (idsOf 4 c) (w .tables))); world = w; written = chosen (st .config .«rebroadcast_count») (idsOf 4 c) (w .tables) }) (unchanged (refused (rebroadcastRefusal st room c) 0) w) .outcome)
         ≡ length (pick t (record { outcome = wrote (length (chosen (st .config .«rebroadcast_count») (idsOf 4 c) (w .tables))); world = w; written = chosen (st .config .«rebroadcast_count») (idsOf 4 c) (w .tables) }) (unchanged (refused (rebroadcastRefusal st room c) 0) w) .written)
     go true = refl
     go false = refl

@@ -40,7 +40,8 @@ use Rattle.lines.specs.declared.read.TxForm.{TxForm}
 use Rattle.lines.specs.declared.read.ReturnForm.{ReturnForm}
 use Rattle.entries.specs.declared.fields.ValidationCost.{ValidationCost}
 use Rattle.replies.specs.Replies.{named, replacedText, pooledText, rowOf, spenderText, pairDec, pairAt, pairsOf, pairs, binsText}
-use Rattle.console.specs.Console.{wYes, wNo, wNone, wNeeded, wAccepted, refusedText, queryText, orRefused, listingText, pairOf, histogramText, txText, writtenIn, strategyOf, configOf, sourceOf, verdictOf, submissionOf, measuredOf, unconfirmedOf, noConfig, nothing}
+use Rattle.console.specs.Console.{wYes, wNo, wNone, wNeeded, wAccepted, refusedText, queryText, orRefused, listingText, pairOf, histogramText, txText, strategyOf, configOf, sourceOf, verdictOf, submissionOf, measuredOf, unconfirmedOf, noConfig, nothing}
+use Rattle.pool_types.specs.Outcomes.{writtenOf}
 
 pub prints-as : {t u o₀ o : List ℕ} {n : ℕ} → t ≡ u → Prints t 0 o₀ o n → Prints u 0 o₀ o n
 prints-as {t} {u} {o₀} {o} {n} e p = subst (λ (x : List ℕ). Prints x 0 o₀ o n) e p
@@ -95,8 +96,8 @@ module _ (o : ProcessingOutcome) (x : ℕ) (ks : List ℕ) where
 -- ---- lists that go through the buffer of the queries
 
 -- the outcome says how long the list is
-pub list-count : {r : ListOutcome} {o : Outcome} {n : ℕ} → listedOf r ≡ o → r ≡ Listed n → n ≡ writtenIn o
-unfolding listedOf writtenIn
+pub list-count : {r : ListOutcome} {o : Outcome} {n : ℕ} → listedOf r ≡ o → r ≡ Listed n → n ≡ writtenOf o
+unfolding listedOf writtenOf
 list-count q p = rw (← q, p)
 
 -- records as their table reads them from the buffer m and f prints them
@@ -114,13 +115,13 @@ abbrev rowCases : Bool → Bool → ℕ → List Row → Listing
 rowCases t u k rs = pick t (pick u (listing (refused 2 0) []) (listing (wrote k) rs)) (listing (refused 1 0) [])
 
 row-cases : (t u : Bool) (w k : ℕ) (rs : List Row) → ltb w k ≡ u → length rs ≡ k
-    → (writtenIn (rowCases t u k rs .outcome) ≡ length (rowCases t u k rs .rows)) × (length (rowCases t u k rs .rows) ≤ w)
-unfolding writtenIn
+    → (writtenOf (rowCases t u k rs .outcome) ≡ length (rowCases t u k rs .rows)) × (length (rowCases t u k rs .rows) ≤ w)
+unfolding writtenOf
 row-cases true false w k rs q z = (sym z, rw z (ltb-false w k q))
 row-cases true true w k rs q z = (refl, omega arith)
 row-cases false u w k rs q z = (refl, omega arith)
 
-top-cases : (e : List ℕ) (st : Mempool) (words limit : ℕ) → (writtenIn (topOf e st words limit .outcome) ≡ length (topOf e st words limit .rows)) × (length (topOf e st words limit .rows) ≤ words / 6)
+top-cases : (e : List ℕ) (st : Mempool) (words limit : ℕ) → (writtenOf (topOf e st words limit .outcome) ≡ length (topOf e st words limit .rows)) × (length (topOf e st words limit .rows) ≤ words / 6)
 unfolding topOf
 top-cases e st words limit =
     row-cases (leb (st .counts .pooled) (entriesRoom e)) (ltb (words / 6) (min limit (st .counts .pooled))) (words / 6) (min limit (st .counts .pooled))
@@ -160,15 +161,15 @@ abbrev binCases : Bool → Bool → Bool → ℕ → List Bin → Histogram
 binCases t u v k bs = pick t (pick u (noHistogram 2) (pick v (noHistogram 11) (histogram (wrote k) bs))) (noHistogram 1)
 
 bin-cases : (t u v : Bool) (w k : ℕ) (bs : List Bin) → ltb w k ≡ u → length bs ≡ k
-    → (writtenIn (binCases t u v k bs .outcome) ≡ length (binCases t u v k bs .bins)) × (length (binCases t u v k bs .bins) ≤ w)
-unfolding writtenIn
+    → (writtenOf (binCases t u v k bs .outcome) ≡ length (binCases t u v k bs .bins)) × (length (binCases t u v k bs .bins) ≤ w)
+unfolding writtenOf
 bin-cases true false false w k bs q z = (sym z, rw z (ltb-false w k q))
 bin-cases true false true w k bs q z = (refl, omega arith)
 bin-cases true true v w k bs q z = (refl, omega arith)
 bin-cases false u v w k bs q z = (refl, omega arith)
 
 histogram-cases : (e : List ℕ) (st : Mempool) (words time size longest : ℕ)
-    → (writtenIn (histogramOf e st words time size longest .outcome) ≡ length (histogramOf e st words time size longest .bins)) × (length (histogramOf e st words time size longest .bins) ≤ words / 2)
+    → (writtenOf (histogramOf e st words time size longest .outcome) ≡ length (histogramOf e st words time size longest .bins)) × (length (histogramOf e st words time size longest .bins) ≤ words / 2)
 unfolding histogramOf
 histogram-cases e st words time size longest =
     bin-cases (leb (st .counts .pooled) (entriesRoom e)) (ltb (words / 2) (size + 1)) (eqb size 0 || ltb longest size) (words / 2) (size + 1)

@@ -17,12 +17,13 @@ ghost use Rattle.pool_types.specs.Outcomes.{blockOf};
 ghost use Rattle.boxes.specs.Flat.{countOf, idsTo};
 ghost use Rattle.forms.specs.Nums.{Prints};
 ghost use Rattle.console.specs.declared.calls.Change.the-variants.{Block};
-ghost use Rattle.console.specs.Console.{removedText, writtenIn, altered};
+ghost use Rattle.console.specs.Console.{removedText, altered};
+ghost use Rattle.pool_types.specs.Outcomes.{writtenOf};
 ghost use Rattle.console.specs.After.{Holds, After, ToldOf};
 
 // The ids that a block says it wrote.
 fn removed_of(outcome: BlockOutcome) -> usize
-    ensures { λ r. ⌜ r ≡ writtenIn (blockOf outcome) ⌝ }
+    ensures { λ r. ⌜ r ≡ writtenOf (blockOf outcome) ⌝ }
 {
     match outcome {
         BlockOutcome::Removed(n) => n,

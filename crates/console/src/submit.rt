@@ -24,7 +24,8 @@ ghost use Rattle.pool_types.specs.Outcomes.{processedOf};
 ghost use Rattle.boxes.specs.Flat.{countOf, idsTo};
 ghost use Rattle.forms.specs.Nums.{Prints};
 ghost use Rattle.console.specs.declared.calls.Change.the-variants.{Submit};
-ghost use Rattle.console.specs.Console.{sourceOf, verdictOf, submissionOf, txText, writtenIn, altered};
+ghost use Rattle.console.specs.Console.{sourceOf, verdictOf, submissionOf, txText, altered};
+ghost use Rattle.pool_types.specs.Outcomes.{writtenOf};
 ghost use Rattle.console.specs.After.{Holds, After, ToldOf};
 
 pub fn source_of(peer: Optional) -> Source
@@ -64,7 +65,7 @@ fn submission_of(t: TxForm) -> Submission
 
 // The ids that a submission says it wrote.
 fn written_of(outcome: ProcessingOutcome) -> usize
-    ensures { λ r. ⌜ r ≡ writtenIn (processedOf outcome) ⌝ }
+    ensures { λ r. ⌜ r ≡ writtenOf (processedOf outcome) ⌝ }
 {
     match outcome {
         ProcessingOutcome::Accepted => 0,

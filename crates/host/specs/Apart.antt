@@ -32,7 +32,8 @@ use Rattle.returns.specs.Numbers.{returnRefusals, ofReturn, ofInvalidation}
 use Rattle.blocks.specs.Numbers.{ofBlock}
 use Rattle.cleanup.specs.Numbers.{ofOpen, ofNext, ofAnswer}
 use Rattle.host.specs.State.{passOf}
-use Rattle.host.specs.Codes.{codeOf, writtenOf}
+use Rattle.host.specs.Codes.{codeOf}
+use Rattle.pool_types.specs.Outcomes.{writtenOf}
 use Rattle.host.specs.Calls.{Lent, Submitted}
 use Rattle.host.specs.Changes.{ReturnCall, InvalidateCall, BlockCall}
 use Rattle.host.specs.Passes.{OpenCall, NextCall, AnswerCall}

@@ -21,12 +21,12 @@ use Rattle.pool.specs.Pool.{fitsTest}
 use Rattle.store.specs.Fits.{cacheFits, allFit}
 use Rattle.store.specs.Spares.{Spares, spared-all}
 use Rattle.store.specs.Spares.{Lent as Held, lent as held}
-use Rattle.admit.specs.Placed.{writtenOf as toldOf}
 use Rattle.process.specs.Promises.{ProcessPromise}
 use Rattle.process.specs.Numbers.{ofSubmission}
 use Rattle.process.specs.declared.Processed.{Processed}
 use Rattle.host.specs.State.{passOf, stateOf, submissionOf, leftWords, left-held}
-use Rattle.host.specs.Codes.{codeOf, writtenOf}
+use Rattle.host.specs.Codes.{codeOf}
+use Rattle.pool_types.specs.Outcomes.{writtenOf}
 use Rattle.host.specs.declared.submission.Asked.{Asked}
 use Rattle.host.specs.Spared.{Changed, changed, left-spares}
 
@@ -64,7 +64,7 @@ pub record Ran (w₀ w : Lent) (s₀ s sub ins outs : List ℕ) (code : ℕ) : T
   pub post : Promised w₀ w (stateOf s₀) (submissionOf sub) ins outs (record { mempool = stateOf s; outcome = outcome })
   pub unfit : Unfit w₀ (stateOf s₀) outcome
   pub spares : Spares (processedOf outcome) (heldBy w₀ s₀) (heldBy w s)
-  pub few : toldOf (processedOf outcome) ≤ length (w₀ .answer) / 4
+  pub few : writtenOf (processedOf outcome) ≤ length (w₀ .answer) / 4
 
 -- too few words are refused with n, and nothing changes
 pub record Nothing (n : ℕ) (w₀ w : Lent) (s₀ s : List ℕ) (code : ℕ) : Type 0 where
@@ -84,7 +84,7 @@ module _ (w₀ w : Lent) (s₀ s sub ins outs : List ℕ) (n : ℕ) {st : Mempoo
     (o : ofSubmission (processedOf (r .outcome)) ≡ true)
     (u : Unfit w₀ st (r .outcome))
     (v : Spares (processedOf (r .outcome)) (held (w₀ .entries) (w₀ .boxes) (w₀ .cache) (w₀ .peers) (w₀ .answer) st) (held (w .entries) (w .boxes) (w .cache) (w .peers) (w .answer) (r .mempool)))
-    (t : toldOf (processedOf (r .outcome)) ≤ length (w₀ .answer) / 4)
+    (t : writtenOf (processedOf (r .outcome)) ≤ length (w₀ .answer) / 4)
     (q : s ≡ leftWords s₀ (r .mempool .counts) (r .mempool .cached) (r .mempool .sums) n) where
   posted : Promised w₀ w st a ins outs (record { mempool = stateOf s; outcome = r .outcome })
   posted g = let t = p g in rw (left-held s₀ s st (r .mempool) n h e q (t .config) (t .pass)) t
@@ -170,7 +170,7 @@ module _ (w₀ w : Lent) (s₀ s sub ins outs : List ℕ) {code : ℕ} (a : Aske
     (o : ofSubmission (processedOf (r .outcome)) ≡ true)
     (u : Unfit w₀ (a .mempool) (r .outcome))
     (v : Spares (processedOf (r .outcome)) (held (w₀ .entries) (w₀ .boxes) (w₀ .cache) (w₀ .peers) (w₀ .answer) (a .mempool)) (held (w .entries) (w .boxes) (w .cache) (w .peers) (w .answer) (r .mempool)))
-    (t : toldOf (processedOf (r .outcome)) ≤ length (w₀ .answer) / 4)
+    (t : writtenOf (processedOf (r .outcome)) ≤ length (w₀ .answer) / 4)
     (z : Tells s₀ s a r code) where
   refuses : {b : Bool} (j : ℕ) → j ≡ pick b 20 1 → Refusing b a → processedOf (r .outcome) ≡ refused j 0
   refuses j e f = rw e (u (too-many _ _ _ _ _ room (f .pooled)) ∙ ap (λ (b : Bool). refused (pick b 20 1) 0) (f .pass))

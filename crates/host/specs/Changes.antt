@@ -33,7 +33,8 @@ use Rattle.blocks.specs.Numbers.{ofBlock}
 use Rattle.blocks.specs.declared.Applied.{Applied}
 use Rattle.host.specs.State.{lowHalf, passOf, stateOf, sourceOf, leftWords, left-held}
 use Rattle.host.specs.Statistics.{statsOf, Restored, same-stats}
-use Rattle.host.specs.Codes.{codeOf, writtenOf}
+use Rattle.host.specs.Codes.{codeOf}
+use Rattle.pool_types.specs.Outcomes.{writtenOf}
 use Rattle.host.specs.Spared.{Changed, changed, left-spares}
 
 -- ---- a transaction that is given back: 13 words

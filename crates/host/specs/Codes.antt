@@ -1,7 +1,7 @@
 -- What a call answers the C side: one number.
 use Prim.Native.Nat.{ℕ}
 use mathlib.Core.Path.{_≡_, refl}
-use Rattle.pool_types.specs.Outcomes.{Outcome, refused, done, wrote, needed, candidate, ended, missing, invalid, valid, number, said, entry, none}
+use Rattle.pool_types.specs.Outcomes.{Outcome, refused, done, wrote, needed, candidate, ended, missing, invalid, valid, number, said, entry, none, writtenOf}
 
 -- a changing call: a refusal answers with its number, 1 to 30; done is 0, and what is neither has a number from 100 on
 unfoldable pub codeOf : Outcome → ℕ
@@ -18,22 +18,6 @@ codeOf (number n) = 107
 codeOf (said b) = 108
 codeOf (entry k w b) = 109
 codeOf none = 110
-
--- how many ids it wrote
-unfoldable pub writtenOf : Outcome → ℕ
-writtenOf (refused n k) = k
-writtenOf done = 0
-writtenOf (wrote k) = k
-writtenOf needed = 0
-writtenOf (candidate k) = 0
-writtenOf (ended n) = 0
-writtenOf (missing k) = 0
-writtenOf (invalid k) = 0
-writtenOf (valid k) = 0
-writtenOf (number n) = 0
-writtenOf (said b) = 0
-writtenOf (entry k w b) = 0
-writtenOf none = 0
 
 -- a double-spend loser: 29, with the ids of the conflicts written; replaced: 100, with those that went
 losers : (codeOf (refused 29 3) ≡ 29) × (writtenOf (refused 29 3) ≡ 3) × (codeOf (wrote 2) ≡ 100) × (writtenOf (wrote 2) ≡ 2)

@@ -31,7 +31,8 @@ use Rattle.returns.specs.Numbers.{returnRefusals, ofReturn, ofInvalidation}
 use Rattle.blocks.specs.Numbers.{ofBlock}
 use Rattle.cleanup.specs.Numbers.{ofOpen, ofNext, ofAnswer}
 use Rattle.host.specs.State.{stateOf}
-use Rattle.host.specs.Codes.{codeOf, writtenOf}
+use Rattle.host.specs.Codes.{codeOf}
+use Rattle.pool_types.specs.Outcomes.{writtenOf}
 use Rattle.host.specs.Calls.{Lent, heldBy, Ran}
 use Rattle.host.specs.Changes.{Returning, Invalidating, Blocking}
 use Rattle.host.specs.Passes.{Opening, Offering, Answering}

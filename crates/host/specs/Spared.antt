@@ -11,7 +11,8 @@ use Rattle.peers.specs.declared.PeerRecord.{PeerRecord}
 use Rattle.store.specs.Spares.{Lent, lent, Spares}
 use Rattle.host.specs.State.{configOf, countsOf, sumsOf, passOf, stateOf, writtenAt, changing, leftWords, left-length, left-same, left-written, left-state, left-others, left-held}
 use Rattle.host.specs.Stored.{Stored, stored-held}
-use Rattle.host.specs.Codes.{codeOf, writtenOf}
+use Rattle.host.specs.Codes.{codeOf}
+use Rattle.pool_types.specs.Outcomes.{writtenOf}
 
 -- ---- a submission, a return, an invalidation and a block
 

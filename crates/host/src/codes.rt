@@ -9,7 +9,8 @@ use pool_types::ReturnOutcome;
 use pool_types::TestOutcome;
 ghost use mathlib.Core.Path.{_≡_};
 ghost use Rattle.pool_types.specs.Outcomes.{processedOf, returnedOf, invalidatedOf, blockOf, openedOf, answeredOf, testedOf, listedOf};
-ghost use Rattle.host.specs.Codes.{codeOf, writtenOf};
+ghost use Rattle.host.specs.Codes.{codeOf};
+ghost use Rattle.pool_types.specs.Outcomes.{writtenOf};
 ghost use Rattle.host.specs.Queries.{queryOf};
 
 pub fn code_of(outcome: ProcessingOutcome) -> u64

@@ -13,7 +13,7 @@ use Rattle.pool_types.specs.declared.Mempool.{Mempool}
 use Rattle.pool_types.specs.declared.MempoolConfig.{MempoolConfig}
 use Rattle.pool_types.specs.declared.Submission.{Submission}
 use Rattle.pool_types.specs.declared.StartOutcome.the-variants.{Ready, NotStarted}
-use Rattle.pool_types.specs.Outcomes.{Outcome, Reading, declined, did, offers, fails, tells, readingOf}
+use Rattle.pool_types.specs.Outcomes.{Outcome, Reading, declined, did, offers, fails, tells, readingOf, writtenOf}
 use Rattle.entries.specs.Entries.{Entry}
 use Rattle.boxes.specs.Records.{BoxRec, Pair, inputsOf, outputsOf}
 use Rattle.pool.specs.Pool.{Tables}
@@ -39,7 +39,7 @@ use Rattle.ledger.specs.Same.{Brief, briefOf, viewOf, SameBook}
 use Rattle.ledger.specs.SameLaws.{same-none as book-none}
 use Rattle.ledger.specs.SameLaws.{same-ok}
 use Rattle.admit.specs.Admit.{admitSpec}
-use Rattle.admit.specs.Placed.{writtenOf, placed}
+use Rattle.admit.specs.Placed.{placed}
 use Rattle.ledger.specs.SameCharges.{same-none as charges-none}
 use Rattle.ledger.specs.Readings.{Named, found-same, ids-once, in-strict-order, length-same, pooled-same, weights-same, inputs-same, outputs-same, named-spender, named-producer}
 use Rattle.ledger.specs.BookCredits.{credits-for-chains}

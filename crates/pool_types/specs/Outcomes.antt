@@ -138,3 +138,14 @@ readingOf (number n) = tells
 readingOf (said t) = tells
 readingOf (entry k w b) = tells
 readingOf none = tells
+
+-- how many ids, entries or pairs were written
+abbrev pub counted : Reading → ℕ
+counted (declined n k) = k
+counted (did n) = n
+counted (offers k) = 0
+counted (fails k) = 0
+counted tells = 0
+
+unfoldable pub writtenOf : Outcome → ℕ
+writtenOf o = counted (readingOf o)

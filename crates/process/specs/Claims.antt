@@ -15,7 +15,7 @@ use Rattle.pool_types.specs.declared.Verdict.{Verdict}
 use Rattle.pool_types.specs.declared.Verdict.the-variants.{Invalid, Absent}
 use Rattle.pool_types.specs.declared.ProcessingOutcome.{ProcessingOutcome}
 use Rattle.pool_types.specs.declared.ProcessingOutcome.the-variants.{Declined, VerdictNeeded}
-use Rattle.pool_types.specs.Outcomes.{Outcome, refused, needed, processedOf}
+use Rattle.pool_types.specs.Outcomes.{Outcome, refused, needed, processedOf, writtenOf}
 use Rattle.expiring_cache.specs.Layout.{cacheRoom, CacheKept, room-still, Inserted}
 use Rattle.entries.specs.Entries.{pooled}
 use Rattle.entries.specs.Layout.{entriesOf}
@@ -32,7 +32,7 @@ use Rattle.checks.specs.Passed.{Passed}
 use Rattle.admit.specs.Admit.{Admitted, costOf}
 use Rattle.admit.specs.Admission.{Leaves}
 use Rattle.admit.specs.Spares.{SparesWords}
-use Rattle.admit.specs.Placed.{writtenOf, ofAdmission}
+use Rattle.admit.specs.Placed.{ofAdmission}
 use Rattle.admit.specs.declared.admission.Admission.{Admission}
 use Rattle.process.specs.Process.{standingOf, admitted, judged}
 use Rattle.process.specs.Post.{Post}

@@ -12,7 +12,7 @@ use Rattle.pool_types.specs.Outcomes.{processedOf, refused}
 use Rattle.peers.specs.declared.PeerRecord.{PeerRecord}
 use Rattle.store.specs.Fits.{Kept, allFit}
 use Rattle.store.specs.Spares.{lent, Spares}
-use Rattle.admit.specs.Placed.{writtenOf}
+use Rattle.pool_types.specs.Outcomes.{writtenOf}
 use Rattle.process.specs.Post.{Post, resultOf}
 use Rattle.process.specs.Numbers.{ofSubmission}
 use Rattle.process.specs.declared.Processed.{Processed}

@@ -24,7 +24,7 @@ use Rattle.pool.specs.Pool.{tablesOf}
 use Rattle.store.specs.World.{world, worldOf, Result}
 use Rattle.store.specs.Fits.{Fits, Kept, allFit}
 use Rattle.store.specs.Spares.{Lent, lent, charging, Spared, Spares, spares-same}
-use Rattle.admit.specs.Placed.{writtenOf}
+use Rattle.pool_types.specs.Outcomes.{writtenOf}
 use Rattle.process.specs.Post.{Post}
 use Rattle.process.specs.Numbers.{ofSubmission, unfit-ours}
 use Rattle.process.specs.Promises.{ProcessPromise, Submits}

@@ -64,14 +64,13 @@ use Rattle.process.proofs.submission.Submitted as Sd
 use Rattle.process.proofs.submission.Submitted.Laws as Sd′
 use Prim.Native.Nat.{_/_, _≤_, min}
 use Rattle.words.specs.Lists.{pick as pickOf}
-use Rattle.pool_types.specs.Outcomes.{processedOf, refused}
+use Rattle.pool_types.specs.Outcomes.{processedOf, refused, writtenOf}
 use Rattle.peers.specs.Peers.{peersOf, standing}
 use Rattle.process.specs.Numbers.{ofSubmission}
 use Rattle.store.specs.Fits.{allFit}
 use Rattle.process.specs.Bills.{askedPeer, Payable, Paid}
 use Rattle.process.specs.Post.{resultOf}
 use Rattle.store.specs.Spares.{lent, Spares}
-use Rattle.admit.specs.Placed.{writtenOf}
 use Rattle.process.specs.Claims.{answered, Offers}
 use Rattle.process.specs.Promises.{ProcessPromise}
 use Rattle.process.proofs.Share.{Shared, shares, shared-back}

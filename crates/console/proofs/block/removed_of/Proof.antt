@@ -1,5 +1,5 @@
 use Rattle.pool_types.specs.Outcomes.{blockOf}
-use Rattle.console.specs.Console.{writtenIn}
+use Rattle.pool_types.specs.Outcomes.{writtenOf}
 use borrow.Author.Needs.{needs}
 use Rattle.console.proofs.block.removed_of.Statement.{statement}
 use Rattle.console.proofs.block.removed_of.Tie as tie
@@ -16,12 +16,12 @@ enum-told c = search needs
 
 -- src/block.rt:24:1
 returns : tie.Need-returns
-unfolding writtenIn blockOf
+unfolding writtenOf blockOf
 returns c = search needs
 
 -- src/block.rt:24:1
 returns-2 : tie.Need-returns-2
-unfolding writtenIn blockOf
+unfolding writtenOf blockOf
 returns-2 c = search needs
 
 pub removed-of-spec : {M : Type 1} → statement M

@@ -1,5 +1,5 @@
 use Rattle.pool_types.specs.Outcomes.{processedOf}
-use Rattle.console.specs.Console.{writtenIn}
+use Rattle.pool_types.specs.Outcomes.{writtenOf}
 use borrow.Author.Needs.{needs}
 use Rattle.console.proofs.submit.written_of.Statement.{statement}
 use Rattle.console.proofs.submit.written_of.Tie as tie
@@ -28,27 +28,27 @@ enum-told-3 c = search needs
 
 -- src/submit.rt:63:1
 returns : tie.Need-returns
-unfolding writtenIn processedOf
+unfolding writtenOf processedOf
 returns c = search needs
 
 -- src/submit.rt:63:1
 returns-2 : tie.Need-returns-2
-unfolding writtenIn processedOf
+unfolding writtenOf processedOf
 returns-2 c = search needs
 
 -- src/submit.rt:63:1
 returns-3 : tie.Need-returns-3
-unfolding writtenIn processedOf
+unfolding writtenOf processedOf
 returns-3 c = search needs
 
 -- src/submit.rt:63:1
 returns-4 : tie.Need-returns-4
-unfolding writtenIn processedOf
+unfolding writtenOf processedOf
 returns-4 c = search needs
 
 -- src/submit.rt:63:1
 returns-5 : tie.Need-returns-5
-unfolding writtenIn processedOf
+unfolding writtenOf processedOf
 returns-5 c = search needs
 
 pub written-of-spec : {M : Type 1} → statement M

@@ -1,7 +1,7 @@
 -- `codes::block_written` meets its contract, outcome by outcome. Assumes nothing.
 use mathlib.Core.Path.{sym, ap}
 use Rattle.pool_types.specs.Outcomes.{blockOf}
-use Rattle.host.specs.Codes.{writtenOf}
+use Rattle.pool_types.specs.Outcomes.{writtenOf}
 use borrow.Author.Needs.{needs}
 use Rattle.host.proofs.codes.block_written.Statement.{statement}
 use Rattle.host.proofs.codes.block_written.Tie as tie

@@ -1,7 +1,7 @@
 -- `codes::written_of` meets its contract, outcome by outcome. Assumes nothing.
 use mathlib.Core.Path.{sym, ap}
 use Rattle.pool_types.specs.Outcomes.{processedOf}
-use Rattle.host.specs.Codes.{writtenOf}
+use Rattle.pool_types.specs.Outcomes.{writtenOf}
 use borrow.Author.Needs.{needs}
 use Rattle.host.proofs.codes.written_of.Statement.{statement}
 use Rattle.host.proofs.codes.written_of.Tie as tie

@@ -50,7 +50,7 @@ use Rattle.peers.specs.declared.PeerRecord.{PeerRecord}
 use Rattle.peers.proofs.PeerRecord as Pr
 use Rattle.store.specs.Fits.{allFit}
 use Rattle.store.specs.Spares.{lent as held, Spares}
-use Rattle.admit.specs.Placed.{writtenOf}
+use Rattle.pool_types.specs.Outcomes.{writtenOf}
 use Rattle.process.specs.declared.Processed.{Processed}
 use Rattle.process.proofs.Processed as Pd
 use Rattle.process.proofs.Processed.Laws as Pd′
