@@ -25,7 +25,7 @@ use Rattle.entries.specs.Layout.{tagOf, valueOf, entriesRoom, entriesOf, entryA
 use Rattle.entries.specs.Layout.{ok-room as entries-room}
 use Rattle.entries.specs.declared.fields.ValidationCost.the-variants.{Measured}
 use Rattle.boxes.specs.Records.{BoxRec}
-use Rattle.boxes.specs.Layout.{keyAt, kindAt, keyWord, usedWord, slotAt, slotsOf, slotsUsed, recordsIn, boxesOf, boxesRoom}
+use Rattle.boxes.specs.Layout.{headPlace, keyAt, kindAt, keyWord, usedWord, slotAt, slotsOf, slotsUsed, recordsIn, boxesOf, boxesRoom}
 use Rattle.boxes.specs.Layout.{room-ok as boxes-room}
 use Rattle.boxes.specs.Index as B
 use Rattle.pool.specs.Pool.{PoolFits}
@@ -140,15 +140,22 @@ abbrev owners : List BoxRec → List ℕ
 owners [] = []
 owners (r ∷ rs) = r .owner ∷ owners rs
 
--- the same of box records, all live, by the buckets h of their boxes and g of their owners
-abbrev boxSlotsOf : (ℕ → ℕ) → (ℕ → ℕ) → ℕ → ℕ → ℕ → List BoxRec → List ℕ → List ℕ
-boxSlotsOf h g n j zero rs ws = ws
-boxSlotsOf h g n j (suc s) [] ws = replicate 11 0 ++ (prev h n j ∷ prev g n j ∷ boxSlotsOf h g n (suc j) s [] ws)
-boxSlotsOf h g n j (suc s) (r ∷ rs) ws =
-    0 ∷ 0 ∷ 0 ∷ r .box ∷ 0 ∷ 0 ∷ 0 ∷ r .owner ∷ flag (r .out) ∷ prev h j (h j) ∷ prev g j (g j) ∷ prev h n j ∷ prev g n j ∷ boxSlotsOf h g n (suc j) s rs ws
+-- the same of box records, all live, by the buckets h of their boxes and g of their owners; the heads stand behind the slots
+abbrev boxSlotsOf : (ℕ → ℕ) → (ℕ → ℕ) → ℕ → ℕ → List BoxRec → List ℕ → List ℕ
+boxSlotsOf h g j zero rs ws = ws
+boxSlotsOf h g j (suc s) [] ws = replicate 11 0 ++ boxSlotsOf h g (suc j) s [] ws
+boxSlotsOf h g j (suc s) (r ∷ rs) ws = 0 ∷ 0 ∷ 0 ∷ r .box ∷ flag (r .out) ∷ prev h j (h j) ∷ 0 ∷ 0 ∷ 0 ∷ r .owner ∷ prev g j (g j) ∷ boxSlotsOf h g (suc j) s rs ws
+
+-- the heads of s buckets from bucket j on, where n slots are used; then ws
+abbrev headsOf : (ℕ → ℕ) → ℕ → ℕ → ℕ → List ℕ → List ℕ
+headsOf h n j zero ws = ws
+headsOf h n j (suc s) ws = prev h n j ∷ headsOf h n (suc j) s ws
 
 abbrev boxTable : List BoxRec → List ℕ
-boxTable rs = boxSlotsOf (homes 10 (boxIds rs)) (homes 10 (owners rs)) (length rs) 0 10 rs (length rs ∷ 0 ∷ [])
+boxTable rs =
+    let h = homes 10 (boxIds rs) in
+    let g = homes 10 (owners rs) in
+    boxSlotsOf h g 0 10 rs (headsOf h (length rs) 0 10 (headsOf g (length rs) 0 10 (length rs ∷ 0 ∷ [])))
 
 abbrev pub with : World → Moment
 with w =
@@ -192,25 +199,25 @@ stands w is e b u r =
     }
 
 pub s0 : Stands w0
-unfolding prev checked bounded placeIn bucketOf ahead cell rawAt bucketKey slotOf entryFrom entryIn entryAt entriesOf E.used E.homeOf E.hashAt E.linkAt E.headAt idAt keyAt kindAt keyWord usedWord slotAt slotsOf slotsUsed recordsIn boxesOf boxesRoom B.lastAt B.hashAt B.linkAt B.headAt
+unfolding prev checked bounded placeIn bucketOf headPlace ahead cell rawAt bucketKey slotOf entryFrom entryIn entryAt entriesOf E.used E.homeOf E.hashAt E.linkAt E.headAt idAt keyAt kindAt keyWord usedWord slotAt slotsOf slotsUsed recordsIn boxesOf boxesRoom B.lastAt B.hashAt B.linkAt B.headAt
 s0 = stands w0 (rw (no-rows (replicate 16 0))) (refl, refl, refl, refl, refl, refl) (refl, refl, refl) refl refl
 
 pub s1 : Stands w1
-unfolding prev checked bounded placeIn bucketOf ahead cell rawAt bucketKey slotOf entryFrom entryIn entryAt entriesOf E.used E.homeOf E.hashAt E.linkAt E.headAt idAt keyAt kindAt keyWord usedWord slotAt slotsOf slotsUsed recordsIn boxesOf boxesRoom B.lastAt B.hashAt B.linkAt B.headAt
+unfolding prev checked bounded placeIn bucketOf headPlace ahead cell rawAt bucketKey slotOf entryFrom entryIn entryAt entriesOf E.used E.homeOf E.hashAt E.linkAt E.headAt idAt keyAt kindAt keyWord usedWord slotAt slotsOf slotsUsed recordsIn boxesOf boxesRoom B.lastAt B.hashAt B.linkAt B.headAt
 s1 = stands w1 (rw (no-rows (replicate 16 0), small 1, small 7, small 11)) (refl, refl, refl, refl, refl, refl) (refl, refl, refl) refl refl
 
 pub s2 : Stands w2
-unfolding prev checked bounded placeIn bucketOf ahead cell rawAt bucketKey slotOf entryFrom entryIn entryAt entriesOf E.used E.homeOf E.hashAt E.linkAt E.headAt idAt keyAt kindAt keyWord usedWord slotAt slotsOf slotsUsed recordsIn boxesOf boxesRoom B.lastAt B.hashAt B.linkAt B.headAt
+unfolding prev checked bounded placeIn bucketOf headPlace ahead cell rawAt bucketKey slotOf entryFrom entryIn entryAt entriesOf E.used E.homeOf E.hashAt E.linkAt E.headAt idAt keyAt kindAt keyWord usedWord slotAt slotsOf slotsUsed recordsIn boxesOf boxesRoom B.lastAt B.hashAt B.linkAt B.headAt
 s2 = stands w2 (rw (no-rows (replicate 16 0), small 1, small 2, small 7, small 11, small 12)) (refl, refl, refl, refl, refl, refl) (refl, refl, refl) refl refl
 
 pub s3 : Stands w3
-unfolding prev checked bounded placeIn bucketOf ahead cell rawAt bucketKey slotOf entryFrom entryIn entryAt entriesOf E.used E.homeOf E.hashAt E.linkAt E.headAt idAt keyAt kindAt keyWord usedWord slotAt slotsOf slotsUsed recordsIn boxesOf boxesRoom B.lastAt B.hashAt B.linkAt B.headAt
+unfolding prev checked bounded placeIn bucketOf headPlace ahead cell rawAt bucketKey slotOf entryFrom entryIn entryAt entriesOf E.used E.homeOf E.hashAt E.linkAt E.headAt idAt keyAt kindAt keyWord usedWord slotAt slotsOf slotsUsed recordsIn boxesOf boxesRoom B.lastAt B.hashAt B.linkAt B.headAt
 s3 = stands w3 (rw (no-rows (replicate 16 0), small 1, small 3, small 7, small 8, small 11, small 13)) (refl, refl, refl, refl, refl, refl) (refl, refl, refl) refl refl
 
 pub s4 : Stands w4
-unfolding prev checked bounded placeIn bucketOf ahead cell rawAt bucketKey slotOf entryFrom entryIn entryAt entriesOf E.used E.homeOf E.hashAt E.linkAt E.headAt idAt keyAt kindAt keyWord usedWord slotAt slotsOf slotsUsed recordsIn boxesOf boxesRoom B.lastAt B.hashAt B.linkAt B.headAt
+unfolding prev checked bounded placeIn bucketOf headPlace ahead cell rawAt bucketKey slotOf entryFrom entryIn entryAt entriesOf E.used E.homeOf E.hashAt E.linkAt E.headAt idAt keyAt kindAt keyWord usedWord slotAt slotsOf slotsUsed recordsIn boxesOf boxesRoom B.lastAt B.hashAt B.linkAt B.headAt
 s4 = stands w4 (rw (no-rows (replicate 16 0), small 1, small 4, small 7, small 8, small 11, small 14)) (refl, refl, refl, refl, refl, refl) (refl, refl, refl) refl refl
 
 pub s5 : Stands w5
-unfolding prev checked bounded placeIn bucketOf ahead cell rawAt bucketKey slotOf entryFrom entryIn entryAt entriesOf E.used E.homeOf E.hashAt E.linkAt E.headAt idAt keyAt kindAt keyWord usedWord slotAt slotsOf slotsUsed recordsIn boxesOf boxesRoom B.lastAt B.hashAt B.linkAt B.headAt
+unfolding prev checked bounded placeIn bucketOf headPlace ahead cell rawAt bucketKey slotOf entryFrom entryIn entryAt entriesOf E.used E.homeOf E.hashAt E.linkAt E.headAt idAt keyAt kindAt keyWord usedWord slotAt slotsOf slotsUsed recordsIn boxesOf boxesRoom B.lastAt B.hashAt B.linkAt B.headAt
 s5 = stands w5 (rw (no-rows (replicate 16 0), small 4, small 8, small 14)) (refl, refl, refl, refl, refl, refl) (refl, refl, refl) refl refl
