@@ -5,3 +5,4 @@ pub mod ReadBack
 pub mod FormBack
 pub mod Tidied
 pub mod File
+pub mod Printed

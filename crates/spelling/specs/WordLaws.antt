@@ -55,7 +55,7 @@ lower-twice c =
 lower-zero : (c : ℕ) → (c ≡ 48 → ⊥) → lower c ≡ 48 → ⊥
 lower-zero c n e = by-case c (λ h q. absurd (omega arith)) (λ h q. n (sym q ∙ e))
 
-lower-digit : (c : ℕ) → digitOf (lower c) ≡ digitOf c
+pub lower-digit : (c : ℕ) → digitOf (lower c) ≡ digitOf c
 lower-digit c =
     by-case c
     (λ h q. ap digitOf q ∙ digit-2 (c + 32) (above 48 57 (c + 32) (omega arith)) (in-range 97 102 (c + 32) (omega arith) (omega arith)) ∙ omega arith
@@ -82,12 +82,12 @@ unfolding lowered
 lowered-length [] = refl
 lowered-length (c ∷ w) = ap suc (lowered-length w)
 
-lowered-digits : (b : ℕ) (w : List ℕ) → isDigits b (lowered w) ≡ isDigits b w
+pub lowered-digits : (b : ℕ) (w : List ℕ) → isDigits b (lowered w) ≡ isDigits b w
 unfolding lowered isDigits
 lowered-digits b [] = refl
 lowered-digits b (c ∷ w) = ap₂ (λ (n : ℕ) (t : Bool). pick (ltb n b) t false) (lower-digit c) (lowered-digits b w)
 
-lowered-more : (b n : ℕ) (w : List ℕ) → more b n (lowered w) ≡ more b n w
+pub lowered-more : (b n : ℕ) (w : List ℕ) → more b n (lowered w) ≡ more b n w
 unfolding lowered more
 lowered-more b n [] = refl
 lowered-more b n (c ∷ w) = ap (λ (k : ℕ). more b (n * b + k) (lowered w)) (lower-digit c) ∙ lowered-more b (n * b + digitOf c) w
