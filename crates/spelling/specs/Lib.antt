@@ -6,3 +6,5 @@ pub mod FormBack
 pub mod Tidied
 pub mod File
 pub mod Printed
+pub mod Said
+pub mod Same
