@@ -31,6 +31,15 @@ pub data File : List ℕ → List ℕ → Type 0 where
   last : {l t : List ℕ} → Clean l → Tidied l t → File l t
   line : {l t f u : List ℕ} → Clean l → Tidied l t → File f u → File (l ++ (10 ∷ f)) (t ++ (10 ∷ u))
 
+-- a file as reads bring it: pieces, up to a read that brings nothing
+unfoldable pub inputOf : List (List ℕ) → List ℕ
+inputOf [] = []
+inputOf (r ∷ rs) = r ++ inputOf rs
+
+pub data Cut : List (List ℕ) → Type 0 where
+  end : Cut ([] ∷ [])
+  piece : {b : ℕ} {bs : List ℕ} {rs : List (List ℕ)} → Cut rs → Cut ((b ∷ bs) ∷ rs)
+
 -- ---- a tidied line has no line end
 
 pub clean-join : (s t : List ℕ) → Clean s → Clean t → Clean (s ++ t)

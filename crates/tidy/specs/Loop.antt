@@ -34,6 +34,12 @@ pub record Outs (s : State) (x y : List ℕ) (r : ℕ) : Type 0 where
   pub prints : Prints text 0 x y r
   pub fits : r ≤ 4097
 
+-- bytes that are how a line comes out, and its newline
+pub record Whole (s : State) (bytes : List ℕ) : Type 0 where
+  pub text : List ℕ
+  pub is : Ending s text
+  pub line : bytes ≡ text ++ (10 ∷ [])
+
 -- what was written stands at the front of the buffer `out`
 pub record Steps (b : ℕ) (s s' : State) (out : List ℕ) : Type 0 where
   pub text : List ℕ
@@ -111,6 +117,17 @@ steps-ends b s x y z r e k h o q =
       is = ends e (o .is);
       handed = rw (n, q) (take-suc-set y r 10 (omega (arith, o .fits)) ∙ ap (λ (t : List ℕ). t ++ (10 ∷ [])) (line-is (o .prints)));
     }
+
+pub whole-line : {s : State} (l : List ℕ) (n : ℕ) → n < length l → Ending s (take n l) → Whole s (take (n + 1) (set l n 10))
+whole-line l n h e = record { text = take n l; is = e; line = rw (add-one n) (take-suc-set l n 10 h) }
+
+-- what came out, as the buffer has it
+pub outs-ending : {s : State} {x y : List ℕ} {r : ℕ} → Outs s x y r → Ending s (take r y)
+outs-ending {s} o = subst (Ending s) (sym (line-is (o .prints))) (o .is)
+
+-- a full buffer, copied
+pub held-is : {l x y : List ℕ} {r : ℕ} → Prints l 0 x y r → take r y ≡ l
+held-is w = line-is w
 
 pub finishes-is : (s : State) (x y : List ℕ) (r : ℕ) → Outs s x y r → Finishes s (ended s) y
 finishes-is s x y r o = record { text = o .text; is = last (o .is); handed = ap (λ (n : ℕ). take n y) (let e : length (o .text) ≡ r = omega (arith, o .prints .ends) in e) ∙ line-is (o .prints) }

@@ -10,7 +10,7 @@ use Rattle.forms.specs.TextLaws.{true-false, by-bool}
 use Rattle.lines.specs.Forms.{isRead, formOf}
 use Rattle.spelling.specs.Tidied.{Tidied, read, kept}
 use Rattle.spelling.specs.File as F
-use Rattle.spelling.specs.File.{File, Clean, clean-join}
+use Rattle.spelling.specs.File.{File, Clean, clean-join, inputOf}
 use Rattle.tidy.specs.Input as I
 use Rattle.tidy.specs.Loop.{fed-join}
 use Rattle.tidy.specs.Input.{State, atStart, grown, spilled, begun, Ending, whole, rest, Step, adds, spills, ends, Fed, none, more, ended, Finished, last, Turn, some, Served, unread, reads}
@@ -61,11 +61,6 @@ fed-file {u = u} {s = s} sent h (more {b} {bs} {ts = ts} (ends {t} e y) f) g =
     (subst (λ (z : List ℕ). File ((sent ++ s .line) ++ (10 ∷ bs)) z) (append-assoc sent t (10 ∷ (ts ++ u)) ∙ ap (λ (z : List ℕ). sent ++ z) (sym (append-assoc (t ++ (10 ∷ [])) ts u ∙ append-assoc t (10 ∷ []) (ts ++ u)))) o)
 
 -- ---- reads: the pieces that they brought, up to the one that brought nothing
-
--- the input that the reads brought
-unfoldable pub inputOf : List (List ℕ) → List ℕ
-inputOf [] = []
-inputOf (r ∷ rs) = r ++ inputOf rs
 
 step-over : {b : ℕ} {t : List ℕ} {s s' : State} → Step b s t s' → s' .over ≡ s .over
 step-over (adds x y) = refl

@@ -4,11 +4,10 @@ use replies::pieces::text;
 use spelling::tidy_line;
 ghost use mathlib.Core.Path.{_≡_};
 ghost use Prim.Native.Nat.{_≤_, _<_, min};
-ghost use lib.ListN.{length, set};
-ghost use Rattle.forms.specs.Nums.{Prints};
+ghost use lib.ListN.{length, set, take};
 ghost use Rattle.io.specs.Counts.{Counts};
-ghost use Rattle.tidy.specs.Input.{stateOf, atStart, ended};
-ghost use Rattle.tidy.specs.Loop.{Sized, Outs, Steps, Finishes, Feeds, Turns, Serves};
+ghost use Rattle.tidy.specs.Input.{stateOf, atStart, Ending};
+ghost use Rattle.tidy.specs.Loop.{Sized, Whole, Outs, Steps, Finishes, Feeds, Turns, Serves};
 
 // What goes from byte to byte: how much of a line is held, whether some of it was written already, and whether the input has ended.
 struct Progress {
@@ -22,6 +21,27 @@ fn hand_over(bytes: &[u8]) {
     if !io::write_all(1, bytes) {
         os::fail(b"tidy: standard output");
     }
+}
+
+// The bytes of the line in progress that are held, before another comes.
+fn hand_held(bytes: &[u8], line: &[u8])
+    requires { ⌜ now bytes ≡ now line ⌝ }
+{
+    hand_over(bytes);
+}
+
+// How the line in progress comes out, and its newline.
+fn hand_line(bytes: &[u8], line: &[u8], p: Progress)
+    requires { ⌜ Whole (stateOf (now line) p) (now bytes) ⌝ }
+{
+    hand_over(bytes);
+}
+
+// How the last line comes out.
+fn hand_last(bytes: &[u8], line: &[u8], p: Progress)
+    requires { ⌜ Ending (stateOf (now line) p) (now bytes) ⌝ }
+{
+    hand_over(bytes);
 }
 
 fn smaller(a: usize, b: usize) -> usize
@@ -42,14 +62,14 @@ fn ending(line: &[u8], first: &mut [u64], second: &mut [u64], out: &mut [u8], p:
     tidy_line(&line[..n], first, second, out)
 }
 
-// The first `len` bytes, and a newline behind them, are handed to standard output.
-fn write_line(out: &mut [u8], len: usize)
-    requires { ⌜ len < length (now out) ⌝ }
+// The line in progress comes out as the first `len` bytes: they, and a newline behind them, are written.
+fn write_line(line: &[u8], out: &mut [u8], p: Progress, len: usize)
+    requires { ⌜ (len < length (now out)) × Ending (stateOf (now line) p) (take len (now out)) ⌝ }
     ensures { λ _. ⌜ now (out .exit) ≡ set (now (out .entry)) len 10 ⌝ }
 {
     out[len] = 10;
     let n = len + 1;
-    hand_over(&out[..n]);
+    hand_line(&out[..n], line, p);
 }
 
 // A byte of a line. Where the buffer is full the line is too long, and what is held of it is written.
@@ -67,7 +87,7 @@ fn add_byte(b: u8, line: &mut [u8], out: &mut [u8], p: Progress) -> Progress
         };
     }
     let n = text(out, 0, &line[..]);
-    hand_over(&out[..n]);
+    hand_held(&out[..n], &line[..]);
     line[0] = b;
     Progress {
         len: 1,
@@ -92,7 +112,7 @@ fn step(
         return add_byte(b, line, out, p);
     }
     let n = ending(&line[..], first, second, out, p);
-    write_line(out, n);
+    write_line(&line[..], out, p, n);
     Progress {
         len: 0,
         long: false,
@@ -133,7 +153,7 @@ fn finish(
     ensures { λ r. ⌜ Finishes (stateOf (now (line .entry)) p) (stateOf (now (line .entry)) r) (now (out .exit)) ⌝ }
 {
     let n = ending(line, first, second, out, p);
-    hand_over(&out[..n]);
+    hand_last(&out[..n], line, p);
     Progress {
         len: p.len,
         long: p.long,

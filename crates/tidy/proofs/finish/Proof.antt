@@ -1,6 +1,6 @@
 -- `finish` meets its contract: the last line as it came out. Assumes nothing.
 use native.Mathlib.Omega.{arith}
-use Rattle.tidy.specs.Loop.{front-is, finishes-is}
+use Rattle.tidy.specs.Loop.{front-is, outs-ending, finishes-is}
 use borrow.Author.Needs.{needs}
 use Rattle.tidy.proofs.finish.Statement.{statement}
 use Rattle.tidy.proofs.finish.Tie as tie
@@ -8,14 +8,14 @@ use Rattle.tidy.proofs.finish.Tie as tie
 ending-requires : tie.Need-ending-requires
 ending-requires c κs = search needs
 
-slice-reshare-prefix-hand-over : tie.Need-slice-reshare-prefix-hand-over
-slice-reshare-prefix-hand-over c = search needs
+slice-reshare-prefix-hand-last : tie.Need-slice-reshare-prefix-hand-last
+slice-reshare-prefix-hand-last c = search needs
 
-slice-aggregate-hand-over : tie.Need-slice-aggregate-hand-over
-slice-aggregate-hand-over c = front-is (c .before .before .before .before .before .before .before .ending .result) _ (omega (arith, c .before .before .before .before .before .before .before .ending .ensures .fits, c .before .before .before .before .before .before .before .ending .kept, c .before .before .before .before .before .before .before .before .before .before .before .before .before .before .before .pre .out))
+slice-aggregate-hand-last : tie.Need-slice-aggregate-hand-last
+slice-aggregate-hand-last c = front-is (c .before .before .before .before .before .before .before .ending .result) _ (omega (arith, c .before .before .before .before .before .before .before .ending .ensures .fits, c .before .before .before .before .before .before .before .ending .kept, c .before .before .before .before .before .before .before .before .before .before .before .before .before .before .before .pre .out))
 
-hand-over-requires : tie.Need-hand-over-requires
-hand-over-requires c κs = search needs
+hand-last-requires : tie.Need-hand-last-requires
+hand-last-requires c κs = outs-ending (c .before .before .before .before .before .before .before .ending .ensures)
 
 same-length : tie.Need-same-length
 same-length c = search needs
@@ -34,9 +34,9 @@ finish-spec =
     tie.close
     (tie.spec
     ending-requires
-    slice-reshare-prefix-hand-over
-    slice-aggregate-hand-over
-    hand-over-requires
+    slice-reshare-prefix-hand-last
+    slice-aggregate-hand-last
+    hand-last-requires
     same-length
     same-length-2
     same-length-3

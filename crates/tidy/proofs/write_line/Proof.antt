@@ -2,7 +2,7 @@
 use Prim.Native.Nat.{_+_}
 use native.Mathlib.Omega.{arith}
 use lib.ListN.{set, length-set}
-use Rattle.tidy.specs.Loop.{front-is}
+use Rattle.tidy.specs.Loop.{front-is, whole-line}
 use borrow.Author.Needs.{needs}
 use Rattle.tidy.proofs.write_line.Statement.{statement}
 use Rattle.tidy.proofs.write_line.Tie as tie
@@ -13,14 +13,14 @@ slice-write-out c = search needs
 add-n : tie.Need-add-n
 add-n c = search needs
 
-slice-reshare-prefix-hand-over : tie.Need-slice-reshare-prefix-hand-over
-slice-reshare-prefix-hand-over c = simp length-set (omega arith)
+slice-reshare-prefix-hand-line : tie.Need-slice-reshare-prefix-hand-line
+slice-reshare-prefix-hand-line c = simp length-set (omega arith)
 
-slice-aggregate-hand-over : tie.Need-slice-aggregate-hand-over
-slice-aggregate-hand-over c = front-is (c .before .before .args .len + 1) (set (c .before .before .args .out .now) (c .before .before .args .len) 10) (simp length-set (omega arith))
+slice-aggregate-hand-line : tie.Need-slice-aggregate-hand-line
+slice-aggregate-hand-line c = front-is (c .before .before .before .args .len + 1) (set (c .before .before .before .args .out .now) (c .before .before .before .args .len) 10) (simp length-set (omega arith))
 
-hand-over-requires : tie.Need-hand-over-requires
-hand-over-requires c κs = search needs
+hand-line-requires : tie.Need-hand-line-requires
+hand-line-requires c κs = whole-line (c .before .before .before .args .out .now) (c .before .before .before .args .len) (c .before .before .before .pre .0) (c .before .before .before .pre .1)
 
 same-length : tie.Need-same-length
 same-length c = search needs
@@ -34,8 +34,8 @@ write-line-spec =
     (tie.spec
     slice-write-out
     add-n
-    slice-reshare-prefix-hand-over
-    slice-aggregate-hand-over
-    hand-over-requires
+    slice-reshare-prefix-hand-line
+    slice-aggregate-hand-line
+    hand-line-requires
     same-length
     returns)
