@@ -2,8 +2,9 @@
 // and line ends are copied (docs/FORMS.md). How a line comes out is crate spelling's; here is the loop that cuts the input into lines.
 use replies::pieces::text;
 use spelling::tidy_line;
+use words::sums::smaller;
 ghost use mathlib.Core.Path.{_≡_};
-ghost use Prim.Native.Nat.{_≤_, _<_, min};
+ghost use Prim.Native.Nat.{_≤_, _<_};
 ghost use lib.ListN.{length, set, take};
 ghost use Rattle.io.specs.Counts.{Counts};
 ghost use Rattle.tidy.specs.Input.{stateOf, atStart, Ending};
@@ -42,12 +43,6 @@ fn hand_last(bytes: &[u8], line: &[u8], p: Progress)
     requires { ⌜ Ending (stateOf (now line) p) (now bytes) ⌝ }
 {
     hand_over(bytes);
-}
-
-fn smaller(a: usize, b: usize) -> usize
-    ensures { λ r. ⌜ r ≡ min a b ⌝ }
-{
-    if a < b { a } else { b }
 }
 
 // The end of the line in progress, to the start of `out`: a line that is whole is tidied, the rest of a longer one stays.
