@@ -54,6 +54,16 @@ spelled-edge : spelled (word (48 ∷ 65 ∷ []) (sub none none)) ≡ 40 ∷ 97 �
 unfolding spelled text gap tidied plain lowered lower
 spelled-edge = refl
 
+-- `(contains 00 00A1)` is `(contains 0 a1)`, and `(block 00 ((0F ( )) (00 (1   2))))` is `(block 0 ((f ()) (0 (1 2))))`
+spelled-contains : spelled (word (99 ∷ 111 ∷ 110 ∷ 116 ∷ 97 ∷ 105 ∷ 110 ∷ 115 ∷ []) (word (48 ∷ 48 ∷ []) (word (48 ∷ 48 ∷ 65 ∷ 49 ∷ []) none))) ≡ 40 ∷ 99 ∷ 111 ∷ 110 ∷ 116 ∷ 97 ∷ 105 ∷ 110 ∷ 115 ∷ 32 ∷ 48 ∷ 32 ∷ 97 ∷ 49 ∷ 41 ∷ []
+unfolding spelled text gap tidied plain lowered lower
+spelled-contains = refl
+
+spelled-block : spelled (word (98 ∷ 108 ∷ 111 ∷ 99 ∷ 107 ∷ []) (word (48 ∷ 48 ∷ []) (sub (sub (word (48 ∷ 70 ∷ []) (sub none none)) (sub (word (48 ∷ 48 ∷ []) (sub (word (49 ∷ []) (word (50 ∷ []) none)) none)) none)) none)))
+    ≡ 40 ∷ 98 ∷ 108 ∷ 111 ∷ 99 ∷ 107 ∷ 32 ∷ 48 ∷ 32 ∷ 40 ∷ 40 ∷ 102 ∷ 32 ∷ 40 ∷ 41 ∷ 41 ∷ 32 ∷ 40 ∷ 48 ∷ 32 ∷ 40 ∷ 49 ∷ 32 ∷ 50 ∷ 41 ∷ 41 ∷ 41 ∷ 41 ∷ []
+unfolding spelled text gap tidied plain lowered lower
+spelled-block = refl
+
 -- ---- the same from the bytes of a line, one after the other: what the program does
 
 -- a byte of a word stands next

@@ -1,4 +1,4 @@
-// The single spelling of forms (docs/FORMS.md, "Tidy"): a readable line without the spaces, leading zeros and upper-case digits that it does not need. What
+// The single spelling of forms (docs/FORMS.md): a readable line without the spaces, leading zeros and upper-case digits that it does not need. What
 // is readable is what poolrun reads: crate lines.
 use forms::text::Past;
 use forms::text::read_line;
