@@ -5,7 +5,7 @@ use mathlib.Core.Bool.{Bool, true, false, true≢false}
 use mathlib.Core.List.{List, [], _∷_, _++_, append-assoc}
 use native.Mathlib.Numerals.{add-one}
 use native.Mathlib.Omega.{arith}
-use lib.ListN.{length, take, drop, set, getD, length-take, length-append, length-drop}
+use lib.ListN.{length, take, drop, set, getD, length-take, length-append, length-drop, length-set}
 use lib.Seq.{take-all, take-suc, take-suc-set, take-at}
 use lib.Dec.{leb}
 use borrow.Author.Tests.{leb-true, leb-false}
@@ -39,6 +39,11 @@ pub record Whole (s : State) (bytes : List ℕ) : Type 0 where
   pub text : List ℕ
   pub is : Ending s text
   pub line : bytes ≡ text ++ (10 ∷ [])
+
+-- the first n bytes of x, or with a newline behind them
+pub record Closes (newline : Bool) (x : List ℕ) (n : ℕ) (y : List ℕ) (r : ℕ) : Type 0 where
+  pub line : newline ≡ true → (y ≡ set x n 10) × (r ≡ n + 1)
+  pub last : newline ≡ false → (y ≡ x) × (r ≡ n)
 
 -- what was written stands at the front of the buffer `out`
 pub record Steps (b : ℕ) (s s' : State) (out : List ℕ) : Type 0 where
@@ -124,6 +129,17 @@ whole-line l n h e = record { text = take n l; is = e; line = rw (add-one n) (ta
 -- what came out, as the buffer has it
 pub outs-ending : {s : State} {x y : List ℕ} {r : ℕ} → Outs s x y r → Ending s (take r y)
 outs-ending {s} o = subst (Ending s) (sym (line-is (o .prints))) (o .is)
+
+-- a line that ended is closed by a newline, and the last one by nothing
+pub closed-line : {s : State} {x y z : List ℕ} {r m : ℕ} → length y ≡ length x → length x ≡ 4098 → Outs s x y r → Closes true y r z m → (m ≤ length z) × Whole s (take m z)
+closed-line {s} {x} {y} {z} {r} {m} k h o c =
+    let e = c .line refl in (
+      omega (arith, o .fits, e .1, ap length (e .0), length-set y r 10),
+      rw (e .0, e .1) (whole-line y r (omega (arith, o .fits)) (outs-ending o)),
+    )
+
+pub closed-last : {s : State} {x y z : List ℕ} {r m : ℕ} → length y ≡ length x → length x ≡ 4098 → Outs s x y r → Closes false y r z m → (m ≤ length z) × Ending s (take m z)
+closed-last {s} {x} {y} {z} {r} {m} k h o c = let e = c .last refl in (rw (e .0, e .1) (omega (arith, o .fits)), rw (e .0, e .1) (outs-ending o))
 
 -- a full buffer, copied
 pub held-is : {l x y : List ℕ} {r : ℕ} → Prints l 0 x y r → take r y ≡ l

@@ -5,10 +5,10 @@ use spelling::tidy_line;
 use words::sums::smaller;
 ghost use mathlib.Core.Path.{_≡_};
 ghost use Prim.Native.Nat.{_≤_, _<_};
-ghost use lib.ListN.{length, set, take};
+ghost use lib.ListN.{length};
 ghost use Rattle.io.specs.Counts.{Counts};
 ghost use Rattle.tidy.specs.Input.{stateOf, atStart, Ending};
-ghost use Rattle.tidy.specs.Loop.{Sized, Whole, Outs, Steps, Finishes, Feeds, Turns, Serves};
+ghost use Rattle.tidy.specs.Loop.{Sized, Whole, Outs, Closes, Steps, Finishes, Feeds, Turns, Serves};
 
 // What goes from byte to byte: how much of a line is held, whether some of it was written already, and whether the input has ended.
 struct Progress {
@@ -57,14 +57,16 @@ fn ending(line: &[u8], first: &mut [u64], second: &mut [u64], out: &mut [u8], p:
     tidy_line(&line[..n], first, second, out)
 }
 
-// The line in progress comes out as the first `len` bytes: they, and a newline behind them, are written.
-fn write_line(line: &[u8], out: &mut [u8], p: Progress, len: usize)
-    requires { ⌜ (len < length (now out)) × Ending (stateOf (now line) p) (take len (now out)) ⌝ }
-    ensures { λ _. ⌜ now (out .exit) ≡ set (now (out .entry)) len 10 ⌝ }
+// The first `len` bytes, and where a line ended a newline behind them. Returns how many bytes that is.
+fn close(out: &mut [u8], len: usize, newline: bool) -> usize
+    requires { ⌜ len < length (now out) ⌝ }
+    ensures { λ r. ⌜ Closes newline (now (out .entry)) len (now (out .exit)) r ⌝ }
 {
-    out[len] = 10;
-    let n = len + 1;
-    hand_line(&out[..n], line, p);
+    if newline {
+        out[len] = 10;
+        return len + 1;
+    }
+    len
 }
 
 // A byte of a line. Where the buffer is full the line is too long, and what is held of it is written.
@@ -106,8 +108,9 @@ fn step(
     if b != 10 {
         return add_byte(b, line, out, p);
     }
-    let n = ending(&line[..], first, second, out, p);
-    write_line(&line[..], out, p, n);
+    let len = ending(&line[..], first, second, out, p);
+    let n = close(out, len, true);
+    hand_line(&out[..n], &line[..], p);
     Progress {
         len: 0,
         long: false,
@@ -147,7 +150,8 @@ fn finish(
     requires { ⌜ Sized (now line) (now first) (now second) (now out) ⌝ }
     ensures { λ r. ⌜ Finishes (stateOf (now (line .entry)) p) (stateOf (now (line .entry)) r) (now (out .exit)) ⌝ }
 {
-    let n = ending(line, first, second, out, p);
+    let len = ending(line, first, second, out, p);
+    let n = close(out, len, false);
     hand_last(&out[..n], line, p);
     Progress {
         len: p.len,
