@@ -2,3 +2,4 @@ pub mod Input
 pub mod Poolrun
 pub mod History
 pub mod Demand
+pub mod Alike
