@@ -2,7 +2,7 @@
 -- outcome; that of a return, an invalidation, a block and the calls of a pass is always one of theirs; the number of a query that was refused is no count.
 use Prim.Native.Nat.{ℕ, _*_, _-_, _^_, _≤_, _<_}
 use mathlib.Core.Path.{_≡_, refl, sym, ap, _∙_}
-use mathlib.Core.Bool.{Bool, true, false, _||_}
+use mathlib.Core.Bool.{Bool, true, false, not, _||_}
 use mathlib.Core.List.{List, [], _∷_}
 use native.Mathlib.Omega.{arith}
 use native.Mathlib.Decide.{decLt}
@@ -34,6 +34,8 @@ use Rattle.cleanup.specs.Numbers.{ofOpen, ofNext, ofAnswer}
 use Rattle.host.specs.State.{passOf}
 use Rattle.host.specs.Codes.{codeOf}
 use Rattle.pool_types.specs.Outcomes.{writtenOf}
+use Rattle.host.specs.Results.{lacking}
+use Rattle.cleanup.specs.Post.{noneOut}
 use Rattle.host.specs.Calls.{Lent, Submitted}
 use Rattle.host.specs.Changes.{ReturnCall, InvalidateCall, BlockCall}
 use Rattle.host.specs.Passes.{OpenCall, NextCall, AnswerCall}
@@ -81,13 +83,13 @@ code-of (entry k w b) h = differ h
 code-of none h = differ h
 
 -- on any words the answer is a number of a submission
-pub always-ours : {w₀ w : Lent} {s₀ s sub ins outs : List ℕ} {code : ℕ} → Submitted w₀ w s₀ s sub ins outs code → among code codes ≡ true
-always-ours {w₀} {w} {s₀} {s} {sub} {ins} {outs} {code} r = go (decLt (length s₀) 25) (decLt (length sub) 11)
+pub always-ours : {w₀ w : Lent} {s₀ s r₀ r sub ins outs : List ℕ} {code : ℕ} → Submitted w₀ w s₀ s r₀ r sub ins outs code → among code codes ≡ true
+always-ours {s₀ = s₀} {r₀ = r₀} {sub = sub} {code = code} r = go (decLt (length s₀) 25) (lacking (length sub) 11 (length r₀)) refl
   where
-    go : Dec (length s₀ < 25) → Dec (length sub < 11) → among code codes ≡ true
-    go (yes p) q = rw (r .shortState p .answered)
-    go (no p) (yes q) = rw (r .shortSub (omega (arith, p)) q .answered) (picked codes 20 1 (passOf s₀ .«open») refl refl)
-    go (no p) (no q) = let a = r .ran (omega (arith, p)) (omega (arith, q)) in rw (a .left .answered) (code-of (processedOf (a .outcome)) (a .ours))
+    go : Dec (length s₀ < 25) → (t : Bool) → lacking (length sub) 11 (length r₀) ≡ t → among code codes ≡ true
+    go (yes p) t q = rw (r .shortState p .answered)
+    go (no p) true q = rw (r .short (omega (arith, p)) q .answered) (picked codes 20 1 (passOf s₀ .«open») refl refl)
+    go (no p) false q = let a = r .ran (omega (arith, p)) q in rw (a .left .answered) (code-of (processedOf (a .outcome)) (a .ours))
 
 -- the outcome of a number, and of how many ids were written
 abbrev pub outcomeOf : ℕ → ℕ → Outcome
@@ -137,29 +139,30 @@ unfolding ofBlock blockOf codeOf
 block-code (Removed k) h = refl
 block-code (NotApplied n) h = one-more n 100 (20 ∷ 1 ∷ 2 ∷ []) h
 
-pub return-ours : {e₀ e b₀ b s₀ s tx ins outs : List ℕ} {code : ℕ} → ReturnCall e₀ e b₀ b s₀ s tx ins outs code → among code (0 ∷ returnRefusals) ≡ true
-return-ours {s₀ = s₀} {tx = tx} {code = code} r = go (decLt (length s₀) 25) (decLt (length tx) 13)
+pub return-ours : {e₀ e b₀ b s₀ s r₀ r tx ins outs : List ℕ} {code : ℕ} → ReturnCall e₀ e b₀ b s₀ s r₀ r tx ins outs code → among code (0 ∷ returnRefusals) ≡ true
+return-ours {s₀ = s₀} {r₀ = r₀} {tx = tx} {code = code} r = go (decLt (length s₀) 25) (lacking (length tx) 13 (length r₀)) refl
   where
-    go : Dec (length s₀ < 25) → Dec (length tx < 13) → among code (0 ∷ returnRefusals) ≡ true
+    go : Dec (length s₀ < 25) → (t : Bool) → lacking (length tx) 13 (length r₀) ≡ t → among code (0 ∷ returnRefusals) ≡ true
+    go (yes p) t q = rw (r .shortState p .answered)
+    go (no p) true q = rw (r .short (omega (arith, p)) q .answered) (picked (0 ∷ returnRefusals) 20 1 (passOf s₀ .«open») refl refl)
+    go (no p) false q = let a = r .ran (omega (arith, p)) q in rw (a .left .answered) (return-code (a .outcome) (a .ours))
+
+pub invalidate-ours : {e₀ e b₀ b k₀ k s₀ s r₀ r : List ℕ} {time id code : ℕ} → InvalidateCall e₀ e b₀ b k₀ k s₀ s r₀ r time id code → among code (0 ∷ 20 ∷ 1 ∷ []) ≡ true
+invalidate-ours {s₀ = s₀} {r₀ = r₀} {code = code} r = go (decLt (length s₀) 25) (decLt (length r₀) 16)
+  where
+    go : Dec (length s₀ < 25) → Dec (length r₀ < 16) → among code (0 ∷ 20 ∷ 1 ∷ []) ≡ true
     go (yes p) q = rw (r .shortState p .answered)
-    go (no p) (yes q) = rw (r .shortTx (omega (arith, p)) q .answered) (picked (0 ∷ returnRefusals) 20 1 (passOf s₀ .«open») refl refl)
-    go (no p) (no q) = let a = r .ran (omega (arith, p)) (omega (arith, q)) in rw (a .left .answered) (return-code (a .outcome) (a .ours))
+    go (no p) (yes q) = rw (r .short (omega (arith, p)) q .answered) (picked (0 ∷ 20 ∷ 1 ∷ []) 20 1 (passOf s₀ .«open») refl refl)
+    go (no p) (no q) = let a = r .ran (omega (arith, p)) (omega (arith, q)) in rw (a .left .answered) (invalidate-code (a .outcome) (a .ours))
 
-pub invalidate-ours : {e₀ e b₀ b k₀ k s₀ s : List ℕ} {time id code : ℕ} → InvalidateCall e₀ e b₀ b k₀ k s₀ s time id code → among code (0 ∷ 20 ∷ 1 ∷ []) ≡ true
-invalidate-ours {s₀ = s₀} {code = code} r = go (decLt (length s₀) 25)
-  where
-    go : Dec (length s₀ < 25) → among code (0 ∷ 20 ∷ 1 ∷ []) ≡ true
-    go (yes p) = rw (r .short p .answered)
-    go (no p) = let a = r .ran (omega (arith, p)) in rw (a .left .answered) (invalidate-code (a .outcome) (a .ours))
-
-pub block-ours : {e₀ e b₀ b k₀ k a₀ a s₀ s t₀ t : List ℕ} {time : ℕ} {txs ins : List ℕ} {code : ℕ} → BlockCall e₀ e b₀ b k₀ k a₀ a s₀ s t₀ t time txs ins code
+pub block-ours : {e₀ e b₀ b k₀ k a₀ a s₀ s t₀ t r₀ r : List ℕ} {time : ℕ} {txs ins : List ℕ} {code : ℕ} → BlockCall e₀ e b₀ b k₀ k a₀ a s₀ s t₀ t r₀ r time txs ins code
     → among code (100 ∷ 20 ∷ 1 ∷ 2 ∷ []) ≡ true
-block-ours {s₀ = s₀} {t₀ = t₀} {code = code} r = go (decLt (length s₀) 25) (decLt (length t₀) 124)
+block-ours {s₀ = s₀} {t₀ = t₀} {r₀ = r₀} {code = code} r = go (decLt (length s₀) 25) (lacking (length t₀) 124 (length r₀)) refl
   where
-    go : Dec (length s₀ < 25) → Dec (length t₀ < 124) → among code (100 ∷ 20 ∷ 1 ∷ 2 ∷ []) ≡ true
-    go (yes p) q = rw (r .shortState p .answered)
-    go (no p) (yes q) = rw (r .shortStats (omega (arith, p)) q .answered) (picked (100 ∷ 20 ∷ 1 ∷ 2 ∷ []) 20 1 (passOf s₀ .«open») refl refl)
-    go (no p) (no q) = let a = r .ran (omega (arith, p)) (omega (arith, q)) in rw (a .left .answered) (block-code (a .outcome) (a .ours))
+    go : Dec (length s₀ < 25) → (t : Bool) → lacking (length t₀) 124 (length r₀) ≡ t → among code (100 ∷ 20 ∷ 1 ∷ 2 ∷ []) ≡ true
+    go (yes p) t q = rw (r .shortState p .answered)
+    go (no p) true q = rw (r .short (omega (arith, p)) q .answered) (picked (100 ∷ 20 ∷ 1 ∷ 2 ∷ []) 20 1 (passOf s₀ .«open») refl refl)
+    go (no p) false q = let a = r .ran (omega (arith, p)) q in rw (a .left .answered) (block-code (a .outcome) (a .ours))
 
 -- ---- the calls of a pass: opened with 0; a candidate with 102 and ended with 103; an input missing, invalid and valid with 104 to 106
 
@@ -168,11 +171,11 @@ unfolding ofOpen openedOf codeOf
 open-code Opened h = refl
 open-code (NotOpened n) h = one-more n 0 (1 ∷ 20 ∷ []) (one-more n 1 (20 ∷ []) h)
 
-next-code : (o : NextOutcome) → ofNext o ≡ true → among (codeOf (nextOf o)) (102 ∷ 103 ∷ 2 ∷ 21 ∷ 1 ∷ []) ≡ true
+next-code : (o : NextOutcome) → ofNext o ≡ true → among (codeOf (nextOf o)) (102 ∷ 103 ∷ 21 ∷ 1 ∷ []) ≡ true
 unfolding ofNext nextOf codeOf
 next-code (Candidate x) h = refl
 next-code (Ended n) h = refl
-next-code (NoPass n) h = one-more n 102 (103 ∷ 2 ∷ 21 ∷ 1 ∷ []) (one-more n 103 (2 ∷ 21 ∷ 1 ∷ []) (one-more n 2 (21 ∷ 1 ∷ []) h))
+next-code (NoPass n) h = one-more n 102 (103 ∷ 21 ∷ 1 ∷ []) (one-more n 103 (21 ∷ 1 ∷ []) h)
 
 answer-code : (o : AnswerOutcome) → ofAnswer o ≡ true → among (codeOf (answeredOf o)) (101 ∷ 104 ∷ 105 ∷ 106 ∷ 21 ∷ 1 ∷ []) ≡ true
 unfolding ofAnswer answeredOf codeOf
@@ -183,27 +186,29 @@ answer-code (FoundValid x) h = refl
 answer-code (NotAnswered n) h =
     one-more n 101 (104 ∷ 105 ∷ 106 ∷ 21 ∷ 1 ∷ []) (one-more n 104 (105 ∷ 106 ∷ 21 ∷ 1 ∷ []) (one-more n 105 (106 ∷ 21 ∷ 1 ∷ []) (one-more n 106 (21 ∷ 1 ∷ []) h)))
 
-pub open-ours : {s₀ s : List ℕ} {time limit preheader code : ℕ} → OpenCall s₀ s time limit preheader code → among code (0 ∷ 1 ∷ 20 ∷ []) ≡ true
-open-ours {s₀ = s₀} {code = code} r = go (decLt (length s₀) 25)
+pub open-ours : {s₀ s r₀ r : List ℕ} {time limit preheader code : ℕ} → OpenCall s₀ s r₀ r time limit preheader code → among code (0 ∷ 1 ∷ 20 ∷ []) ≡ true
+open-ours {s₀ = s₀} {r₀ = r₀} {code = code} r = go (decLt (length s₀) 25) (decLt (length r₀) 16)
   where
-    go : Dec (length s₀ < 25) → among code (0 ∷ 1 ∷ 20 ∷ []) ≡ true
-    go (yes p) = rw (r .short p .answered)
-    go (no p) = let a = r .ran (omega (arith, p)) in rw (a .left .answered) (open-code (a .outcome) (a .ours))
-
-pub next-ours : {e s₀ s a₀ a : List ℕ} {code : ℕ} → NextCall e s₀ s a₀ a code → among code (102 ∷ 103 ∷ 2 ∷ 21 ∷ 1 ∷ []) ≡ true
-next-ours {s₀ = s₀} {a₀ = a₀} {code = code} r = go (decLt (length s₀) 25) (decLt (length a₀) 4)
-  where
-    go : Dec (length s₀ < 25) → Dec (length a₀ < 4) → among code (102 ∷ 103 ∷ 2 ∷ 21 ∷ 1 ∷ []) ≡ true
+    go : Dec (length s₀ < 25) → Dec (length r₀ < 16) → among code (0 ∷ 1 ∷ 20 ∷ []) ≡ true
     go (yes p) q = rw (r .shortState p .answered)
-    go (no p) (yes q) = rw (r .shortAnswer (omega (arith, p)) q .answered) (picked (102 ∷ 103 ∷ 2 ∷ 21 ∷ 1 ∷ []) 2 21 (passOf s₀ .«open») refl refl)
+    go (no p) (yes q) = rw (r .short (omega (arith, p)) q .answered) (picked (0 ∷ 1 ∷ 20 ∷ []) 20 1 (passOf s₀ .«open») refl refl)
+    go (no p) (no q) = let a = r .ran (omega (arith, p)) (omega (arith, q)) in rw (a .left .answered) (open-code (a .outcome) (a .ours))
+
+pub next-ours : {e s₀ s r₀ r : List ℕ} {code : ℕ} → NextCall e s₀ s r₀ r code → among code (102 ∷ 103 ∷ 21 ∷ 1 ∷ []) ≡ true
+next-ours {s₀ = s₀} {r₀ = r₀} {code = code} r = go (decLt (length s₀) 25) (decLt (length r₀) 16)
+  where
+    go : Dec (length s₀ < 25) → Dec (length r₀ < 16) → among code (102 ∷ 103 ∷ 21 ∷ 1 ∷ []) ≡ true
+    go (yes p) q = rw (r .shortState p .answered)
+    go (no p) (yes q) = rw (r .short (omega (arith, p)) q .answered) (picked (102 ∷ 103 ∷ 21 ∷ 1 ∷ []) 21 1 (not (passOf s₀ .«open»)) refl refl)
     go (no p) (no q) = let a = r .ran (omega (arith, p)) (omega (arith, q)) in rw (a .left .answered) (next-code (a .outcome) (a .ours))
 
-pub answer-ours : {e₀ e b₀ b k₀ k s₀ s flags : List ℕ} {v : Verdict} {code : ℕ} → AnswerCall e₀ e b₀ b k₀ k s₀ s flags v code → among code (101 ∷ 104 ∷ 105 ∷ 106 ∷ 21 ∷ 1 ∷ []) ≡ true
-answer-ours {s₀ = s₀} {code = code} r = go (decLt (length s₀) 25)
+pub answer-ours : {e₀ e b₀ b k₀ k s₀ s r₀ r flags : List ℕ} {v : Verdict} {code : ℕ} → AnswerCall e₀ e b₀ b k₀ k s₀ s r₀ r flags v code → among code (101 ∷ 104 ∷ 105 ∷ 106 ∷ 21 ∷ 1 ∷ []) ≡ true
+answer-ours {s₀ = s₀} {r₀ = r₀} {code = code} r = go (decLt (length s₀) 25) (decLt (length r₀) 16)
   where
-    go : Dec (length s₀ < 25) → among code (101 ∷ 104 ∷ 105 ∷ 106 ∷ 21 ∷ 1 ∷ []) ≡ true
-    go (yes p) = rw (r .short p .answered)
-    go (no p) = let a = r .ran (omega (arith, p)) in rw (a .left .answered) (answer-code (a .outcome) (a .ours))
+    go : Dec (length s₀ < 25) → Dec (length r₀ < 16) → among code (101 ∷ 104 ∷ 105 ∷ 106 ∷ 21 ∷ 1 ∷ []) ≡ true
+    go (yes p) q = rw (r .shortState p .answered)
+    go (no p) (yes q) = rw (r .short (omega (arith, p)) q .answered) (picked (101 ∷ 104 ∷ 105 ∷ 106 ∷ 21 ∷ 1 ∷ []) 21 1 (noneOut (passOf s₀)) refl refl)
+    go (no p) (no q) = let a = r .ran (omega (arith, p)) (omega (arith, q)) in rw (a .left .answered) (answer-code (a .outcome) (a .ours))
 
 -- ---- a query
 

@@ -6,17 +6,13 @@ use mathlib.Core.Bool.{true, false, not}
 use mathlib.Core.List.{List, [], _∷_}
 use native.Mathlib.Omega.{arith}
 use lib.Dec.{leb}
-use lib.ListN.{length, take, drop, set}
+use lib.ListN.{length, take, drop}
 use Rattle.words.specs.Lists.{pick}
 use Rattle.words.specs.Sums.{cap}
-use Rattle.words.specs.Ids.{idWords}
-use Rattle.words.specs.Rows.{stored}
-use Rattle.words.specs.declared.ids.Id.{Id}
 use Rattle.pool_types.specs.declared.Mempool.{Mempool}
 use Rattle.pool_types.specs.declared.Verdict.{Verdict}
 use Rattle.pool_types.specs.declared.OpenOutcome.{OpenOutcome}
 use Rattle.pool_types.specs.declared.NextOutcome.{NextOutcome}
-use Rattle.pool_types.specs.declared.NextOutcome.the-variants.{Candidate, Ended, NoPass}
 use Rattle.pool_types.specs.declared.AnswerOutcome.{AnswerOutcome}
 use Rattle.pool_types.specs.declared.ListOutcome.{ListOutcome}
 use Rattle.pool_types.specs.Outcomes.{Outcome, refused, openedOf, nextOf, answeredOf, listedOf}
@@ -34,25 +30,26 @@ use Rattle.cleanup.specs.Numbers.{ofOpen, ofNext, ofAnswer, ofRebroadcast}
 use Rattle.cleanup.specs.declared.Opened.{Opened as OpenedRecord}
 use Rattle.cleanup.specs.declared.Offered.{Offered as OfferedRecord}
 use Rattle.cleanup.specs.declared.Answered.{Answered as AnsweredRecord}
-use Rattle.host.specs.State.{passOf, stateOf, writtenAt}
+use Rattle.host.specs.State.{passOf, stateOf}
 use Rattle.host.specs.Stored.{Stored, stored-held}
-use Rattle.host.specs.Codes.{codeOf}
+use Rattle.host.specs.Codes.{codeOf, resultOf}
+use Rattle.host.specs.Results.{filled, Says}
 use Rattle.host.specs.Spared.{stored-spares}
 use Rattle.host.specs.Queries.{queryOf}
 use Rattle.host.specs.Changes.{Idle, idle}
 
--- the outcome's number is answered; no list of ids was written, and the settings are as they were
-pub record Passed (s₀ s : List ℕ) (o : Outcome) (code : ℕ) : Type 0 where
+-- the outcome is answered, by its number and in the result record, and the settings are as they were
+pub record Passed (s₀ s r₀ r : List ℕ) (o : Outcome) (code : ℕ) : Type 0 where
   pub answered : code ≡ codeOf o
-  pub written : writtenAt s ≡ 0
+  pub result : r ≡ filled r₀ (resultOf o)
   pub kept : length s ≡ length s₀
   pub settings : take 9 s ≡ take 9 s₀
-  pub rest : drop 25 s ≡ drop 25 s₀
-  -- where the state is what it was, as in a refusal, so is every word but the number of ids
-  pub spared : stateOf s ≡ stateOf s₀ → s ≡ set s₀ 24 0
+  pub rest : drop 24 s ≡ drop 24 s₀
+  -- where the state is what it was, as in a refusal, so is every word
+  pub spared : stateOf s ≡ stateOf s₀ → s ≡ s₀
 
-passed : {s₀ s : List ℕ} {r : Mempool} {o : Outcome} {code : ℕ} → Stored s₀ s r → code ≡ codeOf o → Passed s₀ s o code
-passed z c = record { answered = c; written = z .written; kept = z .kept; settings = z .settings; rest = z .rest; spared = z .spared }
+passed : {s₀ s r₀ r : List ℕ} {m : Mempool} {o : Outcome} {code : ℕ} → Stored s₀ s m → Says r₀ r o code → Passed s₀ s r₀ r o code
+passed z c = record { answered = c .answered; result = c .result; kept = z .kept; settings = z .settings; rest = z .rest; spared = z .spared }
 
 -- ---- open
 
@@ -60,35 +57,41 @@ passed z c = record { answered = c; written = z .written; kept = z .kept; settin
 abbrev pub OpenSpares : Mempool → Mempool → OpenOutcome → Type 0
 OpenSpares st r o = (e b k : List ℕ) (ys : List PeerRecord) (a : List ℕ) → Spares (openedOf o) (lent e b k ys a st) (lent e b k ys a r)
 
-pub record Opening (s₀ s : List ℕ) (time limit preheader code : ℕ) : Type 0 where
+pub record Opening (s₀ s r₀ r : List ℕ) (time limit preheader code : ℕ) : Type 0 where
   pub outcome : OpenOutcome
-  pub left : Passed s₀ s (openedOf outcome) code
+  pub left : Passed s₀ s r₀ r (openedOf outcome) code
   pub ours : ofOpen outcome ≡ true
   pub post : OpenPromise (stateOf s₀) time limit preheader (stateOf s) (openedOf outcome)
   pub spares : OpenSpares (stateOf s₀) (stateOf s) outcome
   pub only : (w : World) → PassOnly (stateOf s₀) (stateOf s) (openedOf outcome) (opened w (passNow (stateOf s₀ .pass)) time limit preheader)
 
-pub record OpenCall (s₀ s : List ℕ) (time limit preheader code : ℕ) : Type 0 where
-  pub short : length s₀ < 25 → Idle 1 code (s₀ ∷ []) (s ∷ [])
-  pub ran : 25 ≤ length s₀ → Opening s₀ s time limit preheader code
+pub record OpenCall (s₀ s r₀ r : List ℕ) (time limit preheader code : ℕ) : Type 0 where
+  pub shortState : length s₀ < 25 → Idle 1 code r₀ r (s₀ ∷ []) (s ∷ [])
+  pub short : 25 ≤ length s₀ → length r₀ < 16 → Idle (pick (passOf s₀ .«open») 20 1) code r₀ r (s₀ ∷ []) (s ∷ [])
+  pub ran : 25 ≤ length s₀ → 16 ≤ length r₀ → Opening s₀ s r₀ r time limit preheader code
 
-pub open-few : (s : List ℕ) (time limit preheader : ℕ) → length s < 25 → OpenCall s s time limit preheader 1
-open-few s time limit preheader h = record { short = λ _. idle _ refl; ran = λ g. absurd (omega arith) }
+module _ (s r₀ r : List ℕ) (time limit preheader : ℕ) {code : ℕ} where
+  pub open-few : length s < 25 → Says r₀ r (refused 1 0) code → OpenCall s s r₀ r time limit preheader code
+  open-few h c = record { shortState = λ _. idle _ refl c; short = λ g _. absurd (omega arith); ran = λ g _. absurd (omega arith) }
+
+  pub open-short : {n : ℕ} → 25 ≤ length s → length r₀ < 16 → n ≡ pick (passOf s .«open») 20 1 → Says r₀ r (refused n 0) code → OpenCall s s r₀ r time limit preheader code
+  open-short h g d c = record { shortState = λ f. absurd (omega arith); short = λ _ _. idle _ d c; ran = λ _ f. absurd (omega arith) }
 
 -- from what open says of the state that was read
-module _ (s₀ s : List ℕ) (time limit preheader : ℕ) {st : Mempool} (r : OpenedRecord) (h : 25 ≤ length s₀) (f : st ≡ stateOf s₀) (z : Stored s₀ s (r .mempool))
+module _ (s₀ s r₀ r' : List ℕ) (time limit preheader : ℕ) {st : Mempool} (r : OpenedRecord) (h : 25 ≤ length s₀) (g : 16 ≤ length r₀) (f : st ≡ stateOf s₀) (z : Stored s₀ s (r .mempool))
     (p : OpenPromise st time limit preheader (r .mempool) (openedOf (r .outcome)))
     (v : OpenSpares st (r .mempool) (r .outcome))
     (x : (w : World) → PassOnly st (r .mempool) (openedOf (r .outcome)) (opened w (passNow (st .pass)) time limit preheader)) where
   open-held : World → stateOf s ≡ r .mempool
   open-held w = stored-held z f (ap (λ (m : Mempool). m .config) (x w .state))
 
-  pub open-words : {code : ℕ} → ofOpen (r .outcome) ≡ true → code ≡ codeOf (openedOf (r .outcome)) → OpenCall s₀ s time limit preheader code
+  pub open-words : {code : ℕ} → ofOpen (r .outcome) ≡ true → Says r₀ r' (openedOf (r .outcome)) code → OpenCall s₀ s r₀ r' time limit preheader code
   open-words o c =
       record {
-        short = λ g. absurd (omega arith);
+        shortState = λ z. absurd (omega arith);
+        short = λ _ z. absurd (omega arith);
         ran =
-            λ _.
+            λ _ _.
             record {
               outcome = r .outcome;
               left = passed z c;
@@ -99,58 +102,34 @@ module _ (s₀ s : List ℕ) (time limit preheader : ℕ) {st : Mempool} (r : Op
             };
       }
 
--- ---- next: the candidate's id, or the sum, stands in the first words of the answer buffer
-
-abbrev pub offerWords : NextOutcome → List ℕ
-offerWords (Candidate x) = idWords x
-offerWords (Ended n) = n ∷ []
-offerWords (NoPass n) = []
-
--- an answer buffer whose words were a₀ and are a
-pub record Shown (a₀ a : List ℕ) (o : NextOutcome) (code : ℕ) : Type 0 where
-  pub answered : code ≡ codeOf (nextOf o)
-  pub answer : a ≡ stored a₀ 0 (offerWords o)
-
-module _ (a : List ℕ) {o : NextOutcome} where
-  pub shown-candidate : (a' : List ℕ) (x : Id) → o ≡ Candidate x → a' ≡ stored a 0 (idWords x) → Shown a a' o 102
-  unfolding codeOf nextOf
-  shown-candidate a' x e q = rw e (record { answered = refl; answer = q })
-
-  pub shown-ended : (n : ℕ) → o ≡ Ended n → Shown a (stored a 0 (n ∷ [])) o 103
-  unfolding codeOf nextOf
-  shown-ended n e = rw e (record { answered = refl; answer = refl })
-
-  pub shown-none : (n : ℕ) → o ≡ NoPass n → Shown a a o n
-  unfolding codeOf nextOf
-  shown-none n e = rw e (record { answered = refl; answer = refl })
+-- ---- next: the candidate's id, or the sum, stands in the result record
 
 abbrev pub NextSpares : List ℕ → Mempool → Mempool → NextOutcome → Type 0
 NextSpares e st r o = (b k : List ℕ) (ys : List PeerRecord) (a : List ℕ) → Spares (nextOf o) (lent e b k ys a st) (lent e b k ys a r)
 
-pub record Offering (e s₀ s a₀ a : List ℕ) (code : ℕ) : Type 0 where
+pub record Offering (e s₀ s r₀ r : List ℕ) (code : ℕ) : Type 0 where
   pub outcome : NextOutcome
-  pub left : Passed s₀ s (nextOf outcome) code
+  pub left : Passed s₀ s r₀ r (nextOf outcome) code
   pub ours : ofNext outcome ≡ true
-  pub answer : a ≡ stored a₀ 0 (offerWords outcome)
   pub post : NextPromise e (stateOf s₀) (stateOf s) (nextOf outcome)
   pub spares : NextSpares e (stateOf s₀) (stateOf s) outcome
   pub only : stateOf s ≡ repassed (stateOf s₀) (stateOf s .pass)
   pub unfit : leb (stateOf s₀ .counts .pooled) (entriesRoom e) ≡ false → nextOf outcome ≡ refused (pick (not (stateOf s₀ .pass .«open»)) 21 1) 0
 
--- an answer buffer with no room for an id is refused with 2; "20 or 21 first"
-pub record NextCall (e s₀ s a₀ a : List ℕ) (code : ℕ) : Type 0 where
-  pub shortState : length s₀ < 25 → Idle 1 code (s₀ ∷ a₀ ∷ []) (s ∷ a ∷ [])
-  pub shortAnswer : 25 ≤ length s₀ → length a₀ < 4 → Idle (pick (passOf s₀ .«open») 2 21) code (s₀ ∷ a₀ ∷ []) (s ∷ a ∷ [])
-  pub ran : 25 ≤ length s₀ → 4 ≤ length a₀ → Offering e s₀ s a₀ a code
+-- "20 or 21 first": where the state is there, that no pass is open is named before too few words of a result
+pub record NextCall (e s₀ s r₀ r : List ℕ) (code : ℕ) : Type 0 where
+  pub shortState : length s₀ < 25 → Idle 1 code r₀ r (s₀ ∷ []) (s ∷ [])
+  pub short : 25 ≤ length s₀ → length r₀ < 16 → Idle (pick (not (passOf s₀ .«open»)) 21 1) code r₀ r (s₀ ∷ []) (s ∷ [])
+  pub ran : 25 ≤ length s₀ → 16 ≤ length r₀ → Offering e s₀ s r₀ r code
 
-module _ (e s a : List ℕ) where
-  pub next-few : length s < 25 → NextCall e s s a a 1
-  next-few h = record { shortState = λ _. idle _ refl; shortAnswer = λ g _. absurd (omega arith); ran = λ g _. absurd (omega arith) }
+module _ (e s r₀ r : List ℕ) {code : ℕ} where
+  pub next-few : length s < 25 → Says r₀ r (refused 1 0) code → NextCall e s s r₀ r code
+  next-few h c = record { shortState = λ _. idle _ refl c; short = λ g _. absurd (omega arith); ran = λ g _. absurd (omega arith) }
 
-  pub next-room : {code : ℕ} → 25 ≤ length s → length a < 4 → code ≡ pick (passOf s .«open») 2 21 → NextCall e s s a a code
-  next-room h g c = record { shortState = λ f. absurd (omega arith); shortAnswer = λ _ _. idle _ c; ran = λ _ f. absurd (omega arith) }
+  pub next-short : {n : ℕ} → 25 ≤ length s → length r₀ < 16 → n ≡ pick (not (passOf s .«open»)) 21 1 → Says r₀ r (refused n 0) code → NextCall e s s r₀ r code
+  next-short h g d c = record { shortState = λ f. absurd (omega arith); short = λ _ _. idle _ d c; ran = λ _ f. absurd (omega arith) }
 
-module _ (e s₀ s a₀ a : List ℕ) {st : Mempool} (r : OfferedRecord) (h : 25 ≤ length s₀) (g : 4 ≤ length a₀) (f : st ≡ stateOf s₀) (z : Stored s₀ s (r .mempool))
+module _ (e s₀ s r₀ r' : List ℕ) {st : Mempool} (r : OfferedRecord) (h : 25 ≤ length s₀) (g : 16 ≤ length r₀) (f : st ≡ stateOf s₀) (z : Stored s₀ s (r .mempool))
     (p : NextPromise e st (r .mempool) (nextOf (r .outcome)))
     (v : NextSpares e st (r .mempool) (r .outcome))
     (x : leb (st .counts .pooled) (entriesRoom e) ≡ false → nextOf (r .outcome) ≡ refused (pick (not (st .pass .«open»)) 21 1) 0)
@@ -158,18 +137,17 @@ module _ (e s₀ s a₀ a : List ℕ) {st : Mempool} (r : OfferedRecord) (h : 25
   next-held : stateOf s ≡ r .mempool
   next-held = stored-held z f (ap (λ (m : Mempool). m .config) y)
 
-  pub next-words : {code : ℕ} → ofNext (r .outcome) ≡ true → Shown a₀ a (r .outcome) code → NextCall e s₀ s a₀ a code
+  pub next-words : {code : ℕ} → ofNext (r .outcome) ≡ true → Says r₀ r' (nextOf (r .outcome)) code → NextCall e s₀ s r₀ r' code
   next-words o c =
       record {
         shortState = λ d. absurd (omega arith);
-        shortAnswer = λ _ d. absurd (omega arith);
+        short = λ _ d. absurd (omega arith);
         ran =
             λ _ _.
             record {
               outcome = r .outcome;
-              left = passed z (c .answered);
+              left = passed z c;
               ours = o;
-              answer = c .answer;
               post = rw (← f, next-held) p;
               spares = λ b k ys m. stored-spares z f (v b k ys m);
               only = rw (← f, next-held) y;
@@ -182,33 +160,40 @@ module _ (e s₀ s a₀ a : List ℕ) {st : Mempool} (r : OfferedRecord) (h : 25
 abbrev pub AnswerSpares : List ℕ → List ℕ → List ℕ → List ℕ → List ℕ → List ℕ → Mempool → Mempool → AnswerOutcome → Type 0
 AnswerSpares e₀ e b₀ b k₀ k st r o = (ys : List PeerRecord) (a : List ℕ) → Spares (answeredOf o) (lent e₀ b₀ k₀ ys a st) (lent e b k ys a r)
 
-pub record Answering (e₀ e b₀ b k₀ k s₀ s flags : List ℕ) (v : Verdict) (code : ℕ) : Type 0 where
+pub record Answering (e₀ e b₀ b k₀ k s₀ s r₀ r flags : List ℕ) (v : Verdict) (code : ℕ) : Type 0 where
   pub outcome : AnswerOutcome
-  pub left : Passed s₀ s (answeredOf outcome) code
+  pub left : Passed s₀ s r₀ r (answeredOf outcome) code
   pub ours : ofAnswer outcome ≡ true
   pub post : AnswerPromise e₀ b₀ k₀ (stateOf s₀) flags v e b k (stateOf s) (answeredOf outcome)
   pub spares : AnswerSpares e₀ e b₀ b k₀ k (stateOf s₀) (stateOf s) outcome
   pub unfit : cacheFits e₀ b₀ k₀ (stateOf s₀) ≡ false → answeredOf outcome ≡ refused (pick (noneOut (stateOf s₀ .pass)) 21 1) 0
 
-pub record AnswerCall (e₀ e b₀ b k₀ k s₀ s flags : List ℕ) (v : Verdict) (code : ℕ) : Type 0 where
-  pub short : length s₀ < 25 → Idle 1 code (e₀ ∷ b₀ ∷ k₀ ∷ s₀ ∷ []) (e ∷ b ∷ k ∷ s ∷ [])
-  pub ran : 25 ≤ length s₀ → Answering e₀ e b₀ b k₀ k s₀ s flags v code
+-- .. and that no candidate is out
+pub record AnswerCall (e₀ e b₀ b k₀ k s₀ s r₀ r flags : List ℕ) (v : Verdict) (code : ℕ) : Type 0 where
+  pub shortState : length s₀ < 25 → Idle 1 code r₀ r (e₀ ∷ b₀ ∷ k₀ ∷ s₀ ∷ []) (e ∷ b ∷ k ∷ s ∷ [])
+  pub short : 25 ≤ length s₀ → length r₀ < 16 → Idle (pick (noneOut (passOf s₀)) 21 1) code r₀ r (e₀ ∷ b₀ ∷ k₀ ∷ s₀ ∷ []) (e ∷ b ∷ k ∷ s ∷ [])
+  pub ran : 25 ≤ length s₀ → 16 ≤ length r₀ → Answering e₀ e b₀ b k₀ k s₀ s r₀ r flags v code
 
-pub answer-few : (e b k s flags : List ℕ) (v : Verdict) → length s < 25 → AnswerCall e e b b k k s s flags v 1
-answer-few e b k s flags v h = record { short = λ _. idle _ refl; ran = λ g. absurd (omega arith) }
+module _ (e b k s r₀ r flags : List ℕ) (v : Verdict) {code : ℕ} where
+  pub answer-few : length s < 25 → Says r₀ r (refused 1 0) code → AnswerCall e e b b k k s s r₀ r flags v code
+  answer-few h c = record { shortState = λ _. idle _ refl c; short = λ g _. absurd (omega arith); ran = λ g _. absurd (omega arith) }
 
-module _ (e₀ e b₀ b k₀ k s₀ s flags : List ℕ) (v : Verdict) {st : Mempool} {u : Verdict} (r : AnsweredRecord) (h : 25 ≤ length s₀) (f : st ≡ stateOf s₀) (d : u ≡ v) (z : Stored s₀ s (r .mempool))
+  pub answer-short : {n : ℕ} → 25 ≤ length s → length r₀ < 16 → n ≡ pick (noneOut (passOf s)) 21 1 → Says r₀ r (refused n 0) code → AnswerCall e e b b k k s s r₀ r flags v code
+  answer-short h g d c = record { shortState = λ f. absurd (omega arith); short = λ _ _. idle _ d c; ran = λ _ f. absurd (omega arith) }
+
+module _ (e₀ e b₀ b k₀ k s₀ s r₀ r' flags : List ℕ) (v : Verdict) {st : Mempool} {u : Verdict} (r : AnsweredRecord) (h : 25 ≤ length s₀) (g : 16 ≤ length r₀) (f : st ≡ stateOf s₀) (d : u ≡ v) (z : Stored s₀ s (r .mempool))
     (p : AnswerPromise e₀ b₀ k₀ st flags u e b k (r .mempool) (answeredOf (r .outcome)))
     (w : AnswerSpares e₀ e b₀ b k₀ k st (r .mempool) (r .outcome))
     (x : cacheFits e₀ b₀ k₀ st ≡ false → answeredOf (r .outcome) ≡ refused (pick (noneOut (st .pass)) 21 1) 0) where
   answer-posted : AnswerPromise e₀ b₀ k₀ st flags u e b k (stateOf s) (answeredOf (r .outcome))
   answer-posted q g = let t = p q g in rw (stored-held z f (t .config)) t
 
-  pub answer-words : {code : ℕ} → ofAnswer (r .outcome) ≡ true → code ≡ codeOf (answeredOf (r .outcome)) → AnswerCall e₀ e b₀ b k₀ k s₀ s flags v code
+  pub answer-words : {code : ℕ} → ofAnswer (r .outcome) ≡ true → Says r₀ r' (answeredOf (r .outcome)) code → AnswerCall e₀ e b₀ b k₀ k s₀ s r₀ r' flags v code
   answer-words o c =
       record {
-        short = λ g. absurd (omega arith);
-        ran = λ _. record { outcome = r .outcome; left = passed z c; ours = o; post = rw (← f, ← d) answer-posted; spares = λ ys a. stored-spares z f (w ys a); unfit = rw (← f) x };
+        shortState = λ z. absurd (omega arith);
+        short = λ _ z. absurd (omega arith);
+        ran = λ _ _. record { outcome = r .outcome; left = passed z c; ours = o; post = rw (← f, ← d) answer-posted; spares = λ ys a. stored-spares z f (w ys a); unfit = rw (← f) x };
       }
 
 -- ---- a rebroadcast, a query: how many ids were written, and refusal n as 2^64−1−n

@@ -4,38 +4,38 @@ use Prim.Native.Nat.{ℕ, _≤_}
 use mathlib.Core.Path.{_≡_, sym, ap, _∙_}
 use mathlib.Core.Bool.{false}
 use mathlib.Core.List.{List}
-use lib.ListN.{length, getD, set}
+use lib.ListN.{length, getD}
 use Rattle.pool_types.specs.declared.Mempool.{Mempool}
 use Rattle.pool_types.specs.Outcomes.{Outcome}
 use Rattle.peers.specs.declared.PeerRecord.{PeerRecord}
 use Rattle.store.specs.Spares.{Lent, lent, Spares}
-use Rattle.host.specs.State.{configOf, countsOf, sumsOf, passOf, stateOf, writtenAt, changing, leftWords, left-length, left-same, left-written, left-state, left-others, left-held}
+use Rattle.host.specs.State.{configOf, countsOf, sumsOf, passOf, stateOf, changing, leftWords, left-length, left-same, left-state, left-others, left-held}
 use Rattle.host.specs.Stored.{Stored, stored-held}
-use Rattle.host.specs.Codes.{codeOf}
-use Rattle.pool_types.specs.Outcomes.{writtenOf}
+use Rattle.host.specs.Codes.{codeOf, resultOf}
+use Rattle.host.specs.Results.{filled, Says}
 
 -- ---- a submission, a return, an invalidation and a block
 
--- the outcome's number is answered, and how many ids were written; the settings and the pass are as they were, and where the state is what it was, so
--- is every word but that number of ids
-pub record Changed (s₀ s : List ℕ) (o : Outcome) (code : ℕ) : Type 0 where
+-- the outcome is answered, by its number and in the result record; the settings and the pass are as they were, and where the state is what it was, so
+-- is every word
+pub record Changed (s₀ s r₀ r : List ℕ) (o : Outcome) (code : ℕ) : Type 0 where
   pub answered : code ≡ codeOf o
-  pub written : writtenAt s ≡ writtenOf o
+  pub result : r ≡ filled r₀ (resultOf o)
   pub kept : length s ≡ length s₀
   pub others : (i : ℕ) → changing i ≡ false → getD s i 0 ≡ getD s₀ i 0
-  pub spared : stateOf s ≡ stateOf s₀ → s ≡ set s₀ 24 (writtenOf o)
+  pub spared : stateOf s ≡ stateOf s₀ → s ≡ s₀
 
 -- the state r was handed back from st, and stored
-module _ (s₀ s : List ℕ) (r : Mempool) (n : ℕ) (h : 25 ≤ length s₀) (q : s ≡ leftWords s₀ (r .counts) (r .cached) (r .sums) n) where
+module _ (s₀ s : List ℕ) (r : Mempool) (h : 25 ≤ length s₀) (q : s ≡ leftWords s₀ (r .counts) (r .cached) (r .sums)) where
   still : length s ≡ length s₀
-  still = ap length q ∙ left-length s₀ (r .counts) (r .cached) (r .sums) n
+  still = ap length q ∙ left-length s₀ (r .counts) (r .cached) (r .sums)
 
   others : (i : ℕ) → changing i ≡ false → getD s i 0 ≡ getD s₀ i 0
-  others i z = ap (λ (l : List ℕ). getD l i 0) q ∙ left-others s₀ (r .counts) (r .cached) (r .sums) n h i z
+  others i z = ap (λ (l : List ℕ). getD l i 0) q ∙ left-others s₀ (r .counts) (r .cached) (r .sums) h i z
 
   -- what is stored of r is what was there
   as-was : stateOf s ≡ stateOf s₀ → record { config = configOf s₀; counts = r .counts; cached = r .cached; sums = r .sums; pass = passOf s₀ } ≡ stateOf s₀
-  as-was z = sym (left-state s₀ (r .counts) (r .cached) (r .sums) n h) ∙ sym (ap stateOf q) ∙ z
+  as-was z = sym (left-state s₀ (r .counts) (r .cached) (r .sums) h) ∙ sym (ap stateOf q) ∙ z
 
   counts-same : stateOf s ≡ stateOf s₀ → r .counts ≡ countsOf s₀
   unfolding stateOf
@@ -49,14 +49,14 @@ module _ (s₀ s : List ℕ) (r : Mempool) (n : ℕ) (h : 25 ≤ length s₀) (q
   unfolding stateOf
   sums-same z = ap (λ (m : Mempool). m .sums) (as-was z)
 
-  pub changed : {code : ℕ} (o : Outcome) → code ≡ codeOf o → n ≡ writtenOf o → Changed s₀ s o code
-  changed o c d =
+  pub changed : {r₀ r' : List ℕ} {code : ℕ} (o : Outcome) → Says r₀ r' o code → Changed s₀ s r₀ r' o code
+  changed o c =
       record {
-        answered = c;
-        written = ap writtenAt q ∙ left-written s₀ (r .counts) (r .cached) (r .sums) n h ∙ d;
+        answered = c .answered;
+        result = c .result;
         kept = still;
         others = others;
-        spared = λ z. q ∙ left-same s₀ (r .counts) (r .cached) (r .sums) n h (counts-same z) (cached-same z) (sums-same z) ∙ ap (set s₀ 24) d;
+        spared = λ z. q ∙ left-same s₀ (r .counts) (r .cached) (r .sums) h (counts-same z) (cached-same z) (sums-same z);
       }
 
   pub left-spares : {st : Mempool} → st ≡ stateOf s₀ → {o : Outcome} {e₀ e b₀ b k₀ k : List ℕ} {y₀ y : List PeerRecord} {a₀ a : List ℕ}
@@ -64,8 +64,8 @@ module _ (s₀ s : List ℕ) (r : Mempool) (n : ℕ) (h : 25 ≤ length s₀) (q
   left-spares {st} f x =
       rw (← f)
       (record {
-        asked = λ z. let t = x .asked z in rw (left-held s₀ s st r n h f q (ap (λ (m : Lent). m .state .config) t) (ap (λ (m : Lent). m .state .pass) t)) t;
-        refusal = λ j i z. let t = x .refusal j i z in rw (left-held s₀ s st r n h f q (t .rest .0) (t .rest .1)) t;
+        asked = λ z. let t = x .asked z in rw (left-held s₀ s st r h f q (ap (λ (m : Lent). m .state .config) t) (ap (λ (m : Lent). m .state .pass) t)) t;
+        refusal = λ j i z. let t = x .refusal j i z in rw (left-held s₀ s st r h f q (t .rest .0) (t .rest .1)) t;
       })
 
 -- ---- the calls of a pass

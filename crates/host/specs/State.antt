@@ -1,9 +1,8 @@
 -- The state and a submission as the C side holds them: words of 64 bits, in the order of the fields. Each struct of crate pool_types has its own
--- decoding, and every word has a meaning. The words 9 to 13 are what a submission changes, 14 to 23 a pass, and word 24 is no part of the state: how many ids the
--- last changing call wrote.
+-- decoding. The words 9 to 13 are what a submission changes, 14 to 23 a pass, and word 24 is kept for later.
 use Prim.Native.Nat.{ℕ, _%_, _≤_, _<_}
 use mathlib.Core.Path.{_≡_, refl, sym, ap, _∙_}
-use mathlib.Core.Bool.{Bool, true, false}
+use mathlib.Core.Bool.{Bool, true, false, not}
 use mathlib.Core.List.{List, [], _∷_}
 use native.Mathlib.Omega.{arith}
 use native.Mathlib.Decide.{ℕ-discrete}
@@ -25,6 +24,7 @@ use Rattle.pool_types.specs.declared.Source.the-variants.{Local, Peer}
 use Rattle.pool_types.specs.declared.Verdict.{Verdict}
 use Rattle.pool_types.specs.declared.Verdict.the-variants.{Valid, Invalid, Absent}
 use Rattle.arguments.specs.Arguments.{flagged}
+use Rattle.cleanup.specs.Post.{noneOut}
 use Rattle.host.specs.Host.{strategyOf}
 
 -- a number of 32 bits is the low half of its word
@@ -80,17 +80,23 @@ in-order : stateOf (1 ∷ 2 ∷ 3 ∷ 4 ∷ 5 ∷ 6 ∷ 7 ∷ 8 ∷ 9 ∷ 10 ∷
 unfolding stateOf configOf countsOf sumsOf passOf
 in-order = refl
 
--- a pass that was read from them, open or not
+-- what next names first, of a pass that was read from them, ..
 module _ (l : List ℕ) {p : Pass} (e : p ≡ passOf l) where
-  pub room-open : p .«open» ≡ true → _≡_ {A = ℕ} 2 (pick (passOf l .«open») 2 21)
-  room-open h = rw (← e, h)
+  pub next-open : p .«open» ≡ true → _≡_ {A = ℕ} 1 (pick (not (passOf l .«open»)) 21 1)
+  next-open h = rw (← e, h)
 
-  pub room-closed : p .«open» ≡ false → _≡_ {A = ℕ} 21 (pick (passOf l .«open») 2 21)
-  room-closed h = rw (← e, h)
+  pub next-closed : p .«open» ≡ false → _≡_ {A = ℕ} 21 (pick (not (passOf l .«open»)) 21 1)
+  next-closed h = rw (← e, h)
 
--- how many ids the last changing call wrote
-abbrev pub writtenAt : List ℕ → ℕ
-writtenAt l = getD l 24 0
+  -- .. and what answer does
+  pub answer-out : p .«open» ≡ true → p .out ≡ true → _≡_ {A = ℕ} 1 (pick (noneOut (passOf l)) 21 1)
+  answer-out h g = rw (← e, h, g)
+
+  pub answer-none : p .«open» ≡ true → p .out ≡ false → _≡_ {A = ℕ} 21 (pick (noneOut (passOf l)) 21 1)
+  answer-none h g = rw (← e, h, g)
+
+  pub answer-closed : p .«open» ≡ false → _≡_ {A = ℕ} 21 (pick (noneOut (passOf l)) 21 1)
+  answer-closed h = rw (← e, h)
 
 -- ---- a submission: 11 words
 
@@ -121,13 +127,13 @@ by-words = refl
 
 -- ---- what a call leaves in the state's words
 
--- counts, cached, sums and the number of ids written are stored; nothing else
-unfoldable pub leftWords : List ℕ → Counts → ℕ → Sums → ℕ → List ℕ
-leftWords l n k s w = set (set (set (set (set (set l 9 (n .pooled)) 10 (n .records)) 11 k) 12 (s .«interblock_cost»)) 13 (s .peers)) 24 w
+-- counts, cached and sums are stored; nothing else
+unfoldable pub leftWords : List ℕ → Counts → ℕ → Sums → List ℕ
+leftWords l n k s = set (set (set (set (set l 9 (n .pooled)) 10 (n .records)) 11 k) 12 (s .«interblock_cost»)) 13 (s .peers)
 
 -- whether a submission may change the word at this index
 abbrev pub changing : ℕ → Bool
-changing i = pick (eqb i 9) true (pick (eqb i 10) true (pick (eqb i 11) true (pick (eqb i 12) true (pick (eqb i 13) true (eqb i 24)))))
+changing i = pick (eqb i 9) true (pick (eqb i 10) true (pick (eqb i 11) true (pick (eqb i 12) true (eqb i 13))))
 
 -- what stands at an index after one word is stored
 put : (l : List ℕ) (p v i : ℕ) → p < length l → getD (set l p v) i 0 ≡ pick (eqb i p) v (getD l i 0)
@@ -141,48 +147,42 @@ put l p v i h = go (ℕ-discrete i p)
 pub set-self : (l : List ℕ) (i : ℕ) → i < length l → set l i (getD l i 0) ≡ l
 set-self l i h = set-split l i (getD l i 0) h ∙ sym (split-at l i 0 h)
 
--- all six, in two parts
-pub left-parts : (l m o : List ℕ) (n : Counts) (k : ℕ) (s : Sums) (w u v : ℕ) → m ≡ set (set l 9 (n .pooled)) 10 (n .records) → u ≡ k → o ≡ set (set (set m 11 u) 12 (s .«interblock_cost»)) 13 (s .peers) → v ≡ w
-    → set o 24 v ≡ leftWords l n k s w
+-- all five, in two parts
+pub left-parts : (l m o : List ℕ) (n : Counts) (k : ℕ) (s : Sums) (u : ℕ) → m ≡ set (set l 9 (n .pooled)) 10 (n .records) → u ≡ k → o ≡ set (set (set m 11 u) 12 (s .«interblock_cost»)) 13 (s .peers)
+    → o ≡ leftWords l n k s
 unfolding leftWords
-left-parts l m o n k s w u v p q r z = rw (z, r, p, q)
+left-parts l m o n k s u p q r = rw (r, p, q)
 
-module _ (l : List ℕ) (n : Counts) (k : ℕ) (s : Sums) (w : ℕ) where
-  pub left-length : length (leftWords l n k s w) ≡ length l
+module _ (l : List ℕ) (n : Counts) (k : ℕ) (s : Sums) where
+  pub left-length : length (leftWords l n k s) ≡ length l
   unfolding leftWords
   left-length = simp length-set
 
   module _ (h : 25 ≤ length l) where
-    left-at : (i : ℕ) → getD (leftWords l n k s w) i 0
-        ≡ pick (eqb i 24) w (pick (eqb i 13) (s .peers) (pick (eqb i 12) (s .«interblock_cost») (pick (eqb i 11) k (pick (eqb i 10) (n .records) (pick (eqb i 9) (n .pooled) (getD l i 0))))))
+    left-at : (i : ℕ) → getD (leftWords l n k s) i 0
+        ≡ pick (eqb i 13) (s .peers) (pick (eqb i 12) (s .«interblock_cost») (pick (eqb i 11) k (pick (eqb i 10) (n .records) (pick (eqb i 9) (n .pooled) (getD l i 0)))))
     unfolding leftWords
     left-at i =
         let l9 : List ℕ = set l 9 (n .pooled) in
         let l10 : List ℕ = set l9 10 (n .records) in
         let l11 : List ℕ = set l10 11 k in
         let l12 : List ℕ = set l11 12 (s .«interblock_cost») in
-        let l13 : List ℕ = set l12 13 (s .peers) in
-        put l13 24 w i (simp length-set (omega arith))
-        ∙ ap (pick (eqb i 24) w)
-        (put l12 13 (s .peers) i (simp length-set (omega arith))
+        put l12 13 (s .peers) i (simp length-set (omega arith))
         ∙ ap (pick (eqb i 13) (s .peers))
         (put l11 12 (s .«interblock_cost») i (simp length-set (omega arith))
         ∙ ap (pick (eqb i 12) (s .«interblock_cost»))
         (put l10 11 k i (simp length-set (omega arith))
         ∙ ap (pick (eqb i 11) k)
         (put l9 10 (n .records) i (simp length-set (omega arith))
-        ∙ ap (pick (eqb i 10) (n .records)) (put l 9 (n .pooled) i (omega arith))))))
+        ∙ ap (pick (eqb i 10) (n .records)) (put l 9 (n .pooled) i (omega arith)))))
 
-    -- where they are what they were, all but the number of ids
-    pub left-same : n ≡ countsOf l → k ≡ getD l 11 0 → s ≡ sumsOf l → leftWords l n k s w ≡ set l 24 w
+    -- where they are what they were, so are the words
+    pub left-same : n ≡ countsOf l → k ≡ getD l 11 0 → s ≡ sumsOf l → leftWords l n k s ≡ l
     unfolding leftWords countsOf sumsOf
     left-same p q r =
         rw (p, q, r, set-self l 9 (omega arith), set-self l 10 (omega arith), set-self l 11 (omega arith), set-self l 12 (omega arith), set-self l 13 (omega arith))
 
-    pub left-written : writtenAt (leftWords l n k s w) ≡ w
-    left-written = left-at 24
-
-    pub left-state : stateOf (leftWords l n k s w) ≡ record { config = configOf l; counts = n; cached = k; sums = s; pass = passOf l }
+    pub left-state : stateOf (leftWords l n k s) ≡ record { config = configOf l; counts = n; cached = k; sums = s; pass = passOf l }
     unfolding stateOf configOf countsOf sumsOf passOf
     left-state = λ t.
         record {
@@ -213,27 +213,26 @@ module _ (l : List ℕ) (n : Counts) (k : ℕ) (s : Sums) (w : ℕ) where
               };
         }
 
-    pub left-others : (i : ℕ) → changing i ≡ false → getD (leftWords l n k s w) i 0 ≡ getD l i 0
-    left-others i q = left-at i ∙ go (eqb i 9) (eqb i 10) (eqb i 11) (eqb i 12) (eqb i 13) (eqb i 24) q
+    pub left-others : (i : ℕ) → changing i ≡ false → getD (leftWords l n k s) i 0 ≡ getD l i 0
+    left-others i q = left-at i ∙ go (eqb i 9) (eqb i 10) (eqb i 11) (eqb i 12) (eqb i 13) q
       where
         differ : true ≡ false → ⊥
         differ e = let z : _≡_ {A = ℕ} 0 1 = cc in omega arith
 
-        go : (a b c d e f : Bool) → pick a true (pick b true (pick c true (pick d true (pick e true f)))) ≡ false
-            → pick f w (pick e (s .peers) (pick d (s .«interblock_cost») (pick c k (pick b (n .records) (pick a (n .pooled) (getD l i 0)))))) ≡ getD l i 0
-        go true b c d e f z = absurd (differ z)
-        go false true c d e f z = absurd (differ z)
-        go false false true d e f z = absurd (differ z)
-        go false false false true e f z = absurd (differ z)
-        go false false false false true f z = absurd (differ z)
-        go false false false false false true z = absurd (differ z)
-        go false false false false false false z = refl
+        go : (a b c d e : Bool) → pick a true (pick b true (pick c true (pick d true e))) ≡ false
+            → pick e (s .peers) (pick d (s .«interblock_cost») (pick c k (pick b (n .records) (pick a (n .pooled) (getD l i 0))))) ≡ getD l i 0
+        go true b c d e z = absurd (differ z)
+        go false true c d e z = absurd (differ z)
+        go false false true d e z = absurd (differ z)
+        go false false false true e z = absurd (differ z)
+        go false false false false true z = absurd (differ z)
+        go false false false false false z = refl
 
 -- from the state st that was read, r was handed back and stored: settings and pass are those that were read
-module _ (s₀ s : List ℕ) (st r : Mempool) (n : ℕ) (h : 25 ≤ length s₀) (e : st ≡ stateOf s₀) (q : s ≡ leftWords s₀ (r .counts) (r .cached) (r .sums) n) where
+module _ (s₀ s : List ℕ) (st r : Mempool) (h : 25 ≤ length s₀) (e : st ≡ stateOf s₀) (q : s ≡ leftWords s₀ (r .counts) (r .cached) (r .sums)) where
   pub left-held : r .config ≡ st .config → r .pass ≡ st .pass → stateOf s ≡ r
   unfolding stateOf
   left-held u v =
       ap stateOf q
-      ∙ left-state s₀ (r .counts) (r .cached) (r .sums) n h
+      ∙ left-state s₀ (r .counts) (r .cached) (r .sums) h
       ∙ λ t. record { config = sym (u ∙ ap (λ (m : Mempool). m .config) e) t; counts = r .counts; cached = r .cached; sums = r .sums; pass = sym (v ∙ ap (λ (m : Mempool). m .pass) e) t }

@@ -7,7 +7,6 @@ use native.Mathlib.Numerals.{add-one}
 use native.Mathlib.Omega.{arith}
 use lib.ListN.{length, getD, take, drop, set, replicate, length-set, length-drop, length-replicate, take-append-drop}
 use lib.Seq.{paste, paste-zero, paste-suc, sets, sets-eq, drop-cons, take-all, take-at, drop-at, getD-drop, drop-drop, take-paste, drop-paste, length-paste}
-use Rattle.stats.specs.Stats.{fresh}
 use Rattle.stats.specs.declared.FeeStats.{FeeStats}
 
 unfoldable pub statsOf : List ℕ → FeeStats
@@ -177,15 +176,3 @@ module _ (l : List ℕ) (s : FeeStats) (h : 124 ≤ length l) (z : Sized s) wher
         stats = ap statsOf stored-words ∙ words-stats s (drop 124 l) z;
         rest = ap (drop 124) stored-words ∙ words-rest s (drop 124 l) z;
       })
-
--- ---- a start: 124 words hold empty statistics at its time; fewer are refused with 1, and nothing changes
-
-pub record StatsStarted (time : ℕ) (l m : List ℕ) (code : ℕ) : Type 0 where
-  pub short : length l < 124 → (code ≡ 1) × (m ≡ l)
-  pub begun : 124 ≤ length l → (code ≡ 0) × Restored l m (fresh time)
-
-pub stats-short : (time : ℕ) (l : List ℕ) → length l < 124 → StatsStarted time l l 1
-stats-short time l h = record { short = λ _. (refl, refl); begun = λ g. absurd (omega arith) }
-
-pub stats-begun : (time : ℕ) (l m : List ℕ) {s : FeeStats} → 124 ≤ length l → s ≡ fresh time → Restored l m s → StatsStarted time l m 0
-stats-begun time l m h e r = record { short = λ g. absurd (omega arith); begun = λ _. (refl, rw (← e) r) }

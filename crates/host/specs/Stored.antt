@@ -1,4 +1,4 @@
--- The whole state, stored: words 9 to 24 as a call of a pass leaves them. What is stored decodes to itself.
+-- The whole state, stored: words 9 to 23 as a call of a pass leaves them. What is stored decodes to itself.
 use Prim.Native.Nat.{ℕ, _+_, _≤_, _<_}
 use mathlib.Core.Path.{_≡_, refl, sym, ap, _∙_}
 use mathlib.Core.Bool.{Bool, true, false, not}
@@ -13,7 +13,7 @@ use Rattle.pool_types.specs.declared.Pass.{Pass}
 use Rattle.pool_types.specs.declared.Mempool.{Mempool}
 use Rattle.arguments.specs.Arguments.{flagged}
 use Rattle.host.specs.Host.{strategyOf}
-use Rattle.host.specs.State.{lowHalf, configOf, countsOf, sumsOf, passOf, stateOf, writtenAt, set-self}
+use Rattle.host.specs.State.{lowHalf, configOf, countsOf, sumsOf, passOf, stateOf, set-self}
 
 -- a flag's word, and that of a number of 32 bits, where w stood: w stays where it says the same
 abbrev pub flagWord : ℕ → Bool → ℕ
@@ -27,20 +27,19 @@ abbrev pub passWords : List ℕ → Pass → List ℕ
 passWords l p =
     flagWord (getD l 14 0) (p .«open») ∷ flagWord (getD l 15 0) (p .out) ∷ p .candidate .a ∷ p .candidate .b ∷ p .candidate .c ∷ p .candidate .d ∷ p .time ∷ p .limit ∷ halfWord (getD l 22 0) (p .preheader) ∷ p .spent ∷ []
 
--- the words 9 to 24, before others; no ids were written
+-- the words 9 to 23
 abbrev pub stateWords : List ℕ → Mempool → List ℕ
 stateWords l r =
-    r .counts .pooled ∷ r .counts .records ∷ r .cached ∷ r .sums .«interblock_cost» ∷ r .sums .peers ∷ (passWords l (r .pass) ++ 0 ∷ [])
+    r .counts .pooled ∷ r .counts .records ∷ r .cached ∷ r .sums .«interblock_cost» ∷ r .sums .peers ∷ passWords l (r .pass)
 
 -- the words that were l and are m hold the state r under the settings of l; settings and what is behind are as they were
 pub record Stored (l m : List ℕ) (r : Mempool) : Type 0 where
   pub state : stateOf m ≡ record { config = configOf l; counts = r .counts; cached = r .cached; sums = r .sums; pass = r .pass }
-  pub written : writtenAt m ≡ 0
   pub kept : length m ≡ length l
   pub settings : take 9 m ≡ take 9 l
-  pub rest : drop 25 m ≡ drop 25 l
-  -- where the state is what it was, so is every word but the number of ids
-  pub spared : stateOf m ≡ stateOf l → m ≡ set l 24 0
+  pub rest : drop 24 m ≡ drop 24 l
+  -- where the state is what it was, so is every word
+  pub spared : stateOf m ≡ stateOf l → m ≡ l
 
 -- ---- as the code finds them, case by case
 
@@ -94,7 +93,7 @@ half-same : (w : ℕ) → halfWord w (lowHalf w) ≡ w
 half-same w = rw (eq-eqb (lowHalf w) (lowHalf w) refl)
 
 -- the state that they hold, stored back
-same-words : (l : List ℕ) → 25 ≤ length l → sets l 9 (stateWords l (stateOf l)) ≡ set l 24 0
+same-words : (l : List ℕ) → 25 ≤ length l → sets l 9 (stateWords l (stateOf l)) ≡ l
 unfolding stateOf countsOf sumsOf passOf
 same-words l h =
     rw (flag-same (getD l 14 0), flag-same (getD l 15 0), half-same (getD l 22 0))
@@ -120,10 +119,10 @@ module _ (l m : List ℕ) (r : Mempool) (h : 25 ≤ length l) (g : lowHalf (r .p
   long : length (take 9 l) ≡ 9
   long = length-take 9 l ∙ omega arith
 
-  split : m ≡ take 9 l ++ (stateWords l r ++ drop 25 l)
-  split = q ∙ sets-eq (stateWords l r) l 9 h ∙ append-assoc (take 9 l) (stateWords l r) (drop 25 l)
+  split : m ≡ take 9 l ++ (stateWords l r ++ drop 24 l)
+  split = q ∙ sets-eq (stateWords l r) l 9 (omega arith) ∙ append-assoc (take 9 l) (stateWords l r) (drop 24 l)
 
-  behind : drop 9 m ≡ stateWords l r ++ drop 25 l
+  behind : drop 9 m ≡ stateWords l r ++ drop 24 l
   behind = ap (drop 9) split ∙ drop-at (take 9 l) _ 9 long
 
   settings : take 9 m ≡ take 9 l
@@ -132,7 +131,7 @@ module _ (l m : List ℕ) (r : Mempool) (h : 25 ≤ length l) (g : lowHalf (r .p
   front : (i : ℕ) → i < 9 → getD m i 0 ≡ getD l i 0
   front i z = sym (getD-take 9 m i 0 z) ∙ ap (λ (x : List ℕ). getD x i 0) settings ∙ getD-take 9 l i 0 z
 
-  word : (j : ℕ) → getD m (9 + j) 0 ≡ getD (stateWords l r ++ drop 25 l) j 0
+  word : (j : ℕ) → getD m (9 + j) 0 ≡ getD (stateWords l r ++ drop 24 l) j 0
   word j = sym (getD-drop 9 m j 0) ∙ ap (λ (x : List ℕ). getD x j 0) behind
 
   holds : stateOf m ≡ record { config = configOf l; counts = r .counts; cached = r .cached; sums = r .sums; pass = r .pass }
@@ -174,10 +173,9 @@ module _ (l m : List ℕ) (r : Mempool) (h : 25 ≤ length l) (g : lowHalf (r .p
   stored-all =
       record {
         state = holds;
-        written = word 15;
         kept = ap length q ∙ length-sets l 9 (stateWords l r);
         settings = settings;
-        rest = sym (drop-drop 16 9 m) ∙ ap (drop 16) behind;
+        rest = sym (drop-drop 15 9 m) ∙ ap (drop 15) behind;
         spared = λ z. q ∙ ap (λ (x : Mempool). sets l 9 (stateWords l x)) (as-was z) ∙ same-words l h;
       }
 
@@ -190,11 +188,11 @@ far l a b c d e i k =
     ∙ getD-set-other (set l 9 a) 10 i b 0 (λ x. omega (arith, x))
     ∙ getD-set-other l 9 i a 0 (λ x. omega (arith, x))
 
--- as the code stores it: counts, cached, charges, the pass, and how many ids were written
-pub stored-parts : (l m n o : List ℕ) (r : Mempool) (u v : ℕ) → 25 ≤ length l → lowHalf (r .pass .preheader) ≡ r .pass .preheader
+-- as the code stores it: counts, cached, charges and the pass
+pub stored-parts : (l m n o : List ℕ) (r : Mempool) (u : ℕ) → 25 ≤ length l → lowHalf (r .pass .preheader) ≡ r .pass .preheader
     → m ≡ set (set l 9 (r .counts .pooled)) 10 (r .counts .records) → u ≡ r .cached → n ≡ set (set (set m 11 u) 12 (r .sums .«interblock_cost»)) 13 (r .sums .peers)
-    → o ≡ sets n 14 (passWords n (r .pass)) → v ≡ 0 → Stored l (set o 24 v) r
-stored-parts l m n o r u v h g a b c d e = stored-all l (set o 24 v) r h g (rw (e, d, there 14 (omega arith), there 15 (omega arith), there 22 (omega arith), c, b, a))
+    → o ≡ sets n 14 (passWords n (r .pass)) → Stored l o r
+stored-parts l m n o r u h g a b c d = stored-all l o r h g (rw (d, there 14 (omega arith), there 15 (omega arith), there 22 (omega arith), c, b, a))
   where
     there : (i : ℕ) → 14 ≤ i → getD n i 0 ≡ getD l i 0
     there i k = ap (λ (x : List ℕ). getD x i 0) (c ∙ ap (λ (x : List ℕ). set (set (set x 11 u) 12 (r .sums .«interblock_cost»)) 13 (r .sums .peers)) a) ∙ far l _ _ _ _ _ i k

@@ -15,17 +15,21 @@ use store::unfit;
 use words::ids::Id;
 use words::ids::put_id;
 ghost use mathlib.Core.Path.{_≡_};
+ghost use mathlib.Core.Bool.{not};
 ghost use Prim.Native.Nat.{_+_, _≤_};
 ghost use lib.ListN.{length, set};
 ghost use lib.Seq.{sets};
 ghost use Rattle.words.specs.Lists.{pick};
 ghost use Rattle.words.specs.Ids.{wordsAt};
 ghost use Rattle.entries.specs.Layout.{costOf};
+ghost use Rattle.cleanup.specs.Post.{noneOut};
 ghost use Rattle.host.specs.Host.{strategyOf};
 ghost use Rattle.host.specs.State.{lowHalf, configOf, countsOf, sumsOf, passOf, stateOf, sourceOf, verdictOf, submissionOf, leftWords};
 ghost use Rattle.host.specs.Stored.{flagWord, halfWord, passWords, Stored};
-ghost use Rattle.host.specs.Starts.{Cleared};
+ghost use Rattle.host.specs.Starts.{firstWord, Begun};
 ghost use Rattle.host.specs.Changes.{txOf};
+
+pub const SETTINGS_WORDS: usize = 9;
 
 pub const STATE_WORDS: usize = 25;
 
@@ -67,7 +71,7 @@ fn id_at(s: &[u64], at: usize) -> Id
 // ---- the state
 
 pub fn load_config(s: &[u64]) -> MempoolConfig
-    requires { ⌜ 25 ≤ length (now s) ⌝ }
+    requires { ⌜ 9 ≤ length (now s) ⌝ }
     ensures { λ r. ⌜ r ≡ configOf (now (s .entry)) ⌝ }
 {
     let fee_strategy = strategy_of(s[2]);
@@ -147,14 +151,29 @@ pub fn too_few(s: &[u64]) -> u64
     unfit(pass.open)
 }
 
-// .. and that there is none before an answer buffer that is too short for an id.
-pub fn no_room(s: &[u64]) -> u64
+// .. of next that there is none, ..
+pub fn too_few_of_next(s: &[u64]) -> u64
     requires { ⌜ 25 ≤ length (now s) ⌝ }
-    ensures { λ r. ⌜ r ≡ pick (passOf (now (s .entry)) .«open») 2 21 ⌝ }
+    ensures { λ r. ⌜ r ≡ pick (not (passOf (now (s .entry)) .«open»)) 21 1 ⌝ }
 {
     let pass = load_pass(s);
     if pass.open {
-        return 2;
+        return 1;
+    }
+    21
+}
+
+// .. and of answer that no candidate is out.
+pub fn too_few_of_answer(s: &[u64]) -> u64
+    requires { ⌜ 25 ≤ length (now s) ⌝ }
+    ensures { λ r. ⌜ r ≡ pick (noneOut (passOf (now (s .entry)))) 21 1 ⌝ }
+{
+    let pass = load_pass(s);
+    if pass.open {
+        if pass.out {
+            return 1;
+        }
+        return 21;
     }
     21
 }
@@ -177,17 +196,16 @@ fn store_sums(s: &mut [u64], sums: Sums)
     s[13] = sums.peers as u64;
 }
 
-// .. and all, with the number of ids that it wrote.
-pub fn store_left(s: &mut [u64], mempool: Mempool, written: u64)
+// .. and all.
+pub fn store_left(s: &mut [u64], mempool: Mempool)
     requires { ⌜ 25 ≤ length (now s) ⌝ }
-    ensures { λ _. ⌜ now (s .exit) ≡ leftWords (now (s .entry)) (mempool .counts) (mempool .cached) (mempool .sums) written ⌝ }
+    ensures { λ _. ⌜ now (s .exit) ≡ leftWords (now (s .entry)) (mempool .counts) (mempool .cached) (mempool .sums) ⌝ }
 {
     let counts = mempool.counts;
     store_counts(s, counts);
     s[11] = mempool.cached as u64;
     let sums = mempool.sums;
     store_sums(s, sums);
-    s[24] = written;
 }
 
 // A flag's word, where `was` stood: it stays where it says the same, ..
@@ -232,7 +250,7 @@ fn store_pass(s: &mut [u64], pass: Pass)
     s[23] = pass.spent;
 }
 
-// .. and writes no list of ids.
+// .. and so all.
 pub fn store_state(s: &mut [u64], mempool: Mempool)
     requires { ⌜ 25 ≤ length (now s) ⌝ }
     ensures { λ _. ⌜ Stored (now (s .entry)) (now (s .exit)) mempool ⌝ }
@@ -244,17 +262,29 @@ pub fn store_state(s: &mut [u64], mempool: Mempool)
     store_sums(s, sums);
     let pass = mempool.pass;
     store_pass(s, pass);
-    s[24] = 0;
 }
 
-// Zero in the words 9 to 24: the state of an empty pool under its settings.
-pub fn clear(s: &mut [u64])
-    requires { ⌜ 25 ≤ length (now s) ⌝ }
-    ensures { λ _. ⌜ Cleared (now (s .entry)) (now (s .exit)) ⌝ }
+// ---- a start
+
+// A word of the state of an empty pool: its setting, or 0.
+fn first_word(settings: &[u64], i: usize) -> u64
+    requires { ⌜ 9 ≤ length (now settings) ⌝ }
+    ensures { λ r. ⌜ r ≡ firstWord (now (settings .entry)) i ⌝ }
 {
-    let mut i = 9;
+    if i < SETTINGS_WORDS {
+        return settings[i];
+    }
+    0
+}
+
+pub fn begin(s: &mut [u64], settings: &[u64])
+    requires { ⌜ 25 ≤ length (now s) ⌝ }
+    requires { ⌜ 9 ≤ length (now settings) ⌝ }
+    ensures { λ _. ⌜ Begun (now (settings .entry)) (now (s .entry)) (now (s .exit)) ⌝ }
+{
+    let mut i = 0;
     while i < STATE_WORDS {
-        s[i] = 0;
+        s[i] = first_word(settings, i);
         i += 1;
     }
 }

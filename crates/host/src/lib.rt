@@ -4,25 +4,27 @@
 //
 //     typedef uint64_t u64;
 //     typedef struct { u64 peer, cost; } PeerRecord;
-//     u64 gunthyd_fee_per_factor(u64 fee, u64 size, u64 cost, u64 by_cycle);
-//     u64 gunthyd_find_entry(const u64 *entries, size_t entries_len, size_t pooled, u64 a, u64 b, u64 c, u64 d);
-//     u64 gunthyd_start(const u64 *entries, size_t entries_len, const u64 *boxes, size_t boxes_len, const u64 *cache, size_t cache_len,
-//                       size_t peers, u64 *state, size_t state_len);
+//     u64 gunthyd_start(const u64 *settings, size_t settings_len, u64 time, const u64 *entries, size_t entries_len,
+//                       const u64 *boxes, size_t boxes_len, const u64 *cache, size_t cache_len, size_t peers,
+//                       u64 *stats, size_t stats_len, u64 *state, size_t state_len, u64 *result, size_t result_len);
 //     u64 gunthyd_process(u64 *entries, size_t entries_len, u64 *boxes, size_t boxes_len, u64 *cache, size_t cache_len,
 //                         PeerRecord *peers, size_t peers_len, u64 *answer, size_t answer_len, u64 *state, size_t state_len,
-//                         const u64 *sub, size_t sub_len, const u64 *inputs, size_t inputs_len, const u64 *outputs, size_t outputs_len);
+//                         u64 *result, size_t result_len, const u64 *sub, size_t sub_len, const u64 *inputs, size_t inputs_len,
+//                         const u64 *outputs, size_t outputs_len);
 //     u64 gunthyd_return_to_pool(u64 *entries, size_t entries_len, u64 *boxes, size_t boxes_len, u64 *state, size_t state_len,
-//                                const u64 *tx, size_t tx_len, const u64 *inputs, size_t inputs_len, const u64 *outputs, size_t outputs_len);
+//                                u64 *result, size_t result_len, const u64 *tx, size_t tx_len, const u64 *inputs, size_t inputs_len,
+//                                const u64 *outputs, size_t outputs_len);
 //     u64 gunthyd_invalidate(u64 *entries, size_t entries_len, u64 *boxes, size_t boxes_len, u64 *cache, size_t cache_len,
-//                            u64 *state, size_t state_len, u64 time, u64 a, u64 b, u64 c, u64 d);
-//     u64 gunthyd_start_stats(u64 *stats, size_t stats_len, u64 time);
+//                            u64 *state, size_t state_len, u64 *result, size_t result_len, u64 time, u64 a, u64 b, u64 c, u64 d);
 //     u64 gunthyd_apply_block_at(u64 *entries, size_t entries_len, u64 *boxes, size_t boxes_len, u64 *cache, size_t cache_len,
-//                                u64 *answer, size_t answer_len, u64 *state, size_t state_len, u64 *stats, size_t stats_len, u64 time,
+//                                u64 *answer, size_t answer_len, u64 *state, size_t state_len, u64 *stats, size_t stats_len,
+//                                u64 *result, size_t result_len, u64 time,
 //                                const u64 *transactions, size_t transactions_len, const u64 *inputs, size_t inputs_len);
-//     u64 gunthyd_open(u64 *state, size_t state_len, u64 time, u64 limit, uint32_t preheader);
-//     u64 gunthyd_next(const u64 *entries, size_t entries_len, u64 *state, size_t state_len, u64 *answer, size_t answer_len);
+//     u64 gunthyd_open(u64 *state, size_t state_len, u64 *result, size_t result_len, u64 time, u64 limit, uint32_t preheader);
+//     u64 gunthyd_next(const u64 *entries, size_t entries_len, u64 *state, size_t state_len, u64 *result, size_t result_len);
 //     u64 gunthyd_answer(u64 *entries, size_t entries_len, u64 *boxes, size_t boxes_len, u64 *cache, size_t cache_len,
-//                        u64 *state, size_t state_len, const u64 *flags, size_t flags_len, u64 verdict, u64 cost);
+//                        u64 *state, size_t state_len, u64 *result, size_t result_len, const u64 *flags, size_t flags_len,
+//                        u64 verdict, u64 cost);
 //     u64 gunthyd_select_for_rebroadcast(const u64 *entries, size_t entries_len, const u64 *boxes, size_t boxes_len,
 //                                        u64 *answer, size_t answer_len, const u64 *state, size_t state_len,
 //                                        const u64 *confirmed, size_t confirmed_len);
@@ -39,26 +41,34 @@
 //     u64 gunthyd_pool_histogram_at(const u64 *entries, size_t entries_len, const u64 *state, size_t state_len, u64 *answer, size_t answer_len,
 //                                   u64 time, uint32_t bins, u64 longest);
 //
+// Two that are no calls of document 01 serve oracle/bench:
+//
+//     u64 gunthyd_fee_per_factor(u64 fee, u64 size, u64 cost, u64 by_cycle);
+//     u64 gunthyd_find_entry(const u64 *entries, size_t entries_len, size_t pooled, u64 a, u64 b, u64 c, u64 d);
+//
 // a, b, c, d are an id's four words, the first bytes first. Lent tables: 18 E + 2 words for E entries, 13 S + 2 for R box
 // records and 7 S + 2 for K cached ids, where S is 5/4 of R or K, rounded up, and 256 peer records (docs/DECISIONS.md, D1). The last word of
 // each of the first three is the key of its buckets: a number that peers do not know, put there before the start (D9c).
 // Lists: inputs 4 words each; outputs 7 of a submission, 5 of a return; transactions of a block 5 (D3, D4); flags, one word for each input of the
 // candidate, 0 for not confirmed; confirmed boxes 4. A verdict and its cost are two words as in a submission.
 //
-//     state, 25 words                                   a submission, 11 words
-//      0 capacity               9 pooled                 0 time
-//      1 min_fee               10 box records            1 to 4 id
-//      2 strategy: 0 by byte   11 cached                 5 size
-//      3 cleanup_interval      12 interblock_cost        6 preheader (low 32 bits)
-//      4 rebroadcast_count     13 peers in use           7 source: 0 local, else a peer
-//      5 invalidation_ttl      14 pass open              8 peer
-//      6 invalidation_capacity 15 candidate out          9 verdict: 0 absent, 1 invalid, else valid
-//      7 cost_per_block        16 to 19 its id          10 cost
-//      8 cost_per_peer_per_    20 pass time
-//        block                 21 limit
-//                              22 preheader (low 32 bits)
-//                              23 spent
-//                              24 ids written by the last changing call
+//     settings, 9 words                                 a submission, 11 words
+//      0 capacity               5 invalidation_ttl       0 time
+//      1 min_fee                6 invalidation_capacity  1 to 4 id
+//      2 strategy: 0 by byte    7 cost_per_block         5 size
+//      3 cleanup_interval       8 cost_per_peer_per_     6 preheader (low 32 bits)
+//      4 rebroadcast_count        block                  7 source: 0 local, else a peer
+//                                                        8 peer
+//     state, 25 words                                    9 verdict: 0 absent, 1 invalid, else valid
+//      0 to 8 the settings     14 pass open             10 cost
+//      9 pooled                15 candidate out
+//     10 box records           16 to 19 its id          result, 16 words
+//     11 cached                20 pass time              0 the number that the call answers
+//     12 interblock_cost       21 limit                  1 ids written
+//     13 peers in use          22 preheader (low 32      2 to 5 the id of a candidate, missing, invalid or valid
+//                                 bits)                  6 the sum of an ended pass
+//                              23 spent                  7 to 15 0, kept for later
+//                              24 kept for later
 //
 //     the statistics, 124 words                         a transaction that is given back, 13 words
 //       0 to 59 counts by minute                         0 to 3 id                7 validation cost: 0 unmeasured
@@ -70,18 +80,18 @@
 //
 //     answers of calls that change the pool             answers of queries
 //     0 ready, accepted, returned, invalidated, opened  len: the number pooled; top: how many entries were written
-//     100 replaced, applied: word 24 ids written        contains: 1 yes, 0 no
+//     100 replaced, applied: ids written                contains: 1 yes, 0 no
 //     101 verdict needed                                spending_tx: 1 written to the first 6 words, 0 none
-//     102 candidate: its id, the first 4 words written  recommended_fee, expected_wait_ms_at: 1 written to the first word
-//     103 ended: the sum, the first word written        pool_histogram_at: how many pairs were written
+//     102 candidate: its id                             recommended_fee, expected_wait_ms_at: 1 written to the first word
+//     103 ended: the sum                                pool_histogram_at: how many pairs were written
 //     104 an input is missing, 105 invalid, 106 valid   select_for_rebroadcast: how many ids were written
-//     n refusal n; at 29 word 24 ids written            2^64-1-n refusal n
+//     n refusal n; at 29 ids written                    2^64-1-n refusal n
 //
-// Too few words of a state are refusal 1. So are too few of statistics, of a submission or of a transaction, and less than 4 words of an answer buffer
-// are refusal 2 of next; but an open pass is named first there, with 20, and none with 21. Nothing changes then. Start takes its settings from words 0
-// to 8 and clears 9 to 24; start_stats empties the statistics, their window at `time`; open, next and answer change 9 to 24; any other changing call
-// changes 9 to 13 and 24, and no other word of the state. A refusal leaves every word that is lent, and of the state all but word 24; but for what 9,
-// 10, 29 and 30 say.
+// Too few words of a state are refusal 1. So are too few of settings, statistics, a submission, a transaction or a result; but an open pass is named
+// first there, with 20, and that there is none, or no candidate out, with 21. Nothing changes then but the result, where there is one. A start leaves
+// the settings in words 0 to 8 of the state, clears the others and empties the statistics, their window at `time`; open, next and answer change 9 to
+// 23; any other changing call changes 9 to 13, and no other word of the state. Every changing call fills the result. A refusal leaves every other word
+// that is lent; but for what 9, 10, 29 and 30 say.
 pub mod changes;
 pub mod codes;
 pub mod fee_queries;
@@ -91,15 +101,23 @@ pub mod queries;
 pub mod statistics;
 pub mod submission;
 
+use crate::codes::lacks;
+use crate::codes::plain;
+use crate::codes::put;
+use crate::codes::refuse;
+use crate::layout::SETTINGS_WORDS;
 use crate::layout::STATE_WORDS;
-use crate::layout::clear;
+use crate::layout::begin;
 use crate::layout::load_config;
 use crate::layout::strategy_of;
+use crate::statistics::STATS_WORDS;
+use crate::statistics::store_stats;
 use entries::fields::entries_room;
 use entries::table::Place;
 use entries::table::find_entry;
 use mempool::start;
 use pool_types::StartOutcome;
+use stats::FeeStats;
 use weight::fee_per_factor;
 use words::ids::Id;
 ghost use mathlib.Core.Path.{_≡_};
@@ -109,7 +127,7 @@ ghost use Rattle.words.specs.Sums.{cap};
 ghost use Rattle.words.specs.Ids.{idOf};
 ghost use Rattle.entries.specs.Layout.{entriesRoom, EntriesKept};
 ghost use Rattle.host.specs.Host.{strategyOf, rankOf};
-ghost use Rattle.host.specs.Starts.{Started};
+ghost use Rattle.host.specs.Starts.{scant, Started};
 
 // ---- by numbers alone
 
@@ -147,27 +165,46 @@ pub extern "C" fn gunthyd_find_entry(
 
 // ---- a start
 
-// Starts an empty pool under the settings of the state.
+// Whether there are too few words of settings, state, statistics or result.
+fn too_short(settings: &[u64], stats: &[u64], state: &[u64], result: &[u64]) -> bool
+    ensures { λ r. ⌜ r ≡ scant (now (settings .entry)) (now (stats .entry)) (now (state .entry)) (now (result .entry)) ⌝ }
+{
+    if settings.len() < SETTINGS_WORDS {
+        return true;
+    }
+    if state.len() < STATE_WORDS {
+        return true;
+    }
+    lacks(stats.len(), STATS_WORDS, result.len())
+}
+
+// Starts an empty pool under these settings, and its statistics at `time`.
 #[no_mangle]
 pub extern "C" fn gunthyd_start(
+    settings: &[u64],
+    time: u64,
     entries: &[u64],
     boxes: &[u64],
     cache: &[u64],
     peers: usize,
+    stats: &mut [u64],
     state: &mut [u64],
+    result: &mut [u64],
 ) -> u64
-    ensures { λ r. ⌜ Started (now (entries .entry)) (now (boxes .entry)) (now (cache .entry)) peers (now (state .entry)) (now (state .exit)) r ⌝ }
+    ensures { λ r. ⌜ Started time (now (settings .entry)) (now (entries .entry)) (now (boxes .entry)) (now (cache .entry)) peers
+        (now (stats .entry)) (now (stats .exit)) (now (state .entry)) (now (state .exit)) (now (result .entry)) (now (result .exit)) r ⌝ }
 {
-    if state.len() < STATE_WORDS {
-        return 1;
+    if too_short(settings, stats, state, result) {
+        return refuse(result, 1);
     }
-    let config = load_config(state);
+    let config = load_config(settings);
     let outcome = start(entries, boxes, cache, peers, config);
     match outcome {
         StartOutcome::Ready(_) => {
-            clear(state);
-            0
+            begin(state, settings);
+            store_stats(stats, FeeStats::new(time));
+            put(result, plain(0, 0, 0))
         }
-        StartOutcome::NotStarted(n) => n,
+        StartOutcome::NotStarted(n) => refuse(result, n),
     }
 }

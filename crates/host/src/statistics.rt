@@ -5,7 +5,7 @@ ghost use mathlib.Core.Path.{_≡_};
 ghost use Prim.Native.Nat.{_+_, _≤_};
 ghost use lib.ListN.{length, take, drop};
 ghost use lib.Seq.{paste};
-ghost use Rattle.host.specs.Statistics.{statsOf, Restored, StatsStarted};
+ghost use Rattle.host.specs.Statistics.{statsOf, Restored};
 
 pub const STATS_WORDS: usize = 124;
 
@@ -66,18 +66,4 @@ pub fn store_stats(s: &mut [u64], stats: FeeStats)
     s[121] = stats.taken;
     s[122] = stats.snap_time;
     s[123] = stats.snap_taken;
-}
-
-// ---- a start
-
-// Starts the statistics of an empty pool at `time`.
-#[no_mangle]
-pub extern "C" fn gunthyd_start_stats(stats: &mut [u64], time: u64) -> u64
-    ensures { λ r. ⌜ StatsStarted time (now (stats .entry)) (now (stats .exit)) r ⌝ }
-{
-    if stats.len() < STATS_WORDS {
-        return 1;
-    }
-    store_stats(stats, FeeStats::new(time));
-    0
 }

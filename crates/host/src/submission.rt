@@ -1,7 +1,8 @@
 // A submission, exported. The peer records are lent as records, so that its proof is a walk by hand; what it reads, decides and stores is in functions
 // of their own.
-use crate::codes::code_of;
-use crate::codes::written_of;
+use crate::codes::lacks;
+use crate::codes::process_told;
+use crate::codes::put;
 use crate::layout::STATE_WORDS;
 use crate::layout::SUBMISSION_WORDS;
 use crate::layout::load_pass;
@@ -116,13 +117,14 @@ fn refusing(open: bool) -> Asked
     }
 }
 
-fn ask(state: &[u64], sub: &[u64]) -> Asked
-    ensures { λ r. ⌜ Asks (now (state .entry)) (now (sub .entry)) r ⌝ }
+// With a result record of `room` words.
+fn ask(state: &[u64], sub: &[u64], room: usize) -> Asked
+    ensures { λ r. ⌜ Asks (now (state .entry)) room (now (sub .entry)) r ⌝ }
 {
     if state.len() < STATE_WORDS {
         return refusing(false);
     }
-    if sub.len() < SUBMISSION_WORDS {
+    if lacks(sub.len(), SUBMISSION_WORDS, room) {
         let pass = load_pass(state);
         return refusing(pass.open);
     }
@@ -135,18 +137,19 @@ fn ask(state: &[u64], sub: &[u64]) -> Asked
     }
 }
 
-// Stores what a whole one left, and answers its number.
-fn tell(state: &mut [u64], call: Asked, done: Processed) -> u64
+// Stores what a whole one left, and tells its outcome.
+fn tell(state: &mut [u64], result: &mut [u64], call: Asked, done: Processed) -> u64
     requires { ⌜ (call .whole ≡ true → 25 ≤ length (now state)) ⌝ }
-    ensures { λ r. ⌜ Tells (now (state .entry)) (now (state .exit)) call done r ⌝ }
+    ensures { λ r. ⌜ Tells (now (state .entry)) (now (state .exit)) (now (result .entry)) (now (result .exit)) call done r ⌝ }
 {
     let outcome = done.outcome;
+    let told = process_told(outcome);
     if call.whole {
         let left = done.mempool;
-        store_left(state, left, written_of(outcome));
-        return code_of(outcome);
+        store_left(state, left);
+        return put(result, told);
     }
-    code_of(outcome)
+    put(result, told)
 }
 
 // Submits a transaction.
@@ -158,6 +161,7 @@ pub extern "C" fn gunthyd_process(
     peers: &mut [PeerRecord],
     answer: &mut [u64],
     state: &mut [u64],
+    result: &mut [u64],
     sub: &[u64],
     inputs: &[u64],
     outputs: &[u64],
@@ -165,9 +169,9 @@ pub extern "C" fn gunthyd_process(
     ensures { λ r. ⌜ Submitted
         (lent (now (entries .entry)) (now (boxes .entry)) (now (cache .entry)) (now (peers .entry)) (now (answer .entry)))
         (lent (now (entries .exit)) (now (boxes .exit)) (now (cache .exit)) (now (peers .exit)) (now (answer .exit)))
-        (now (state .entry)) (now (state .exit)) (now (sub .entry)) (now (inputs .entry)) (now (outputs .entry)) r ⌝ }
+        (now (state .entry)) (now (state .exit)) (now (result .entry)) (now (result .exit)) (now (sub .entry)) (now (inputs .entry)) (now (outputs .entry)) r ⌝ }
 {
-    let call = ask(state, sub);
+    let call = ask(state, sub, result.len());
     let done = process(
         entries,
         boxes,
@@ -179,5 +183,5 @@ pub extern "C" fn gunthyd_process(
         inputs,
         outputs,
     );
-    tell(state, call, done)
+    tell(state, result, call, done)
 }

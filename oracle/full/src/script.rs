@@ -349,10 +349,6 @@ impl<'a> Script<'a> {
             Form::Block { .. } => ((BLOCK_TX_WORDS, ID_WORDS), change.room / ID_WORDS),
             _ => ((1, 1), usize::MAX),
         };
-        if matches!(change.form, Form::Next) && change.room < ID_WORDS {
-            self.rust.forget();
-            return Err(Stop::Refused(2));
-        }
         let cut = change.cut.0 % widths.0 != 0 || change.cut.1 % widths.1 != 0;
         let of_pass = matches!(change.form, Form::Open { .. } | Form::Next | Form::Answer { .. });
         let in_pass = change.in_pass || (!of_pass && self.rust.in_pass());
@@ -393,15 +389,12 @@ impl<'a> Script<'a> {
                 (number, said(number, DONE, || "(opened)".into()))
             }
             Form::Next => {
-                let number = self.here(|port| port.next(change.room));
-                let id = self.candidate();
-                let (words, text) = match number {
-                    CANDIDATE => (ID_WORDS, format!("(candidate {})", hex(&id))),
-                    ENDED => (1, format!("(ended {})", self.port.answer[0])),
-                    refusal => (0, format!("(refused {refusal})")),
+                let number = self.here(|port| port.next());
+                let text = match number {
+                    CANDIDATE => format!("(candidate {})", hex(&self.candidate())),
+                    ENDED => format!("(ended {})", self.port.sum()),
+                    refusal => format!("(refused {refusal})"),
                 };
-                // What is written there, the text says.
-                self.shadow[..words].copy_from_slice(&self.port.answer[..words]);
                 (number, text)
             }
             Form::Answer { flags, verdict } => {
@@ -413,7 +406,7 @@ impl<'a> Script<'a> {
                     VERDICT_NEEDED => return (number, "(verdict needed)".into()),
                     refusal => return (refusal, format!("(refused {refusal})")),
                 };
-                let id = self.last;
+                let id = self.port.about();
                 self.keep_id(id);
                 (number, format!("({kind} {})", hex(&id)))
             }
@@ -471,7 +464,7 @@ impl<'a> Script<'a> {
 
     /// The candidate that next gave last, as the port has it.
     fn candidate(&mut self) -> Id {
-        self.last = id_of(&self.port.answer[..ID_WORDS]);
+        self.last = self.port.about();
         self.last
     }
 
@@ -487,7 +480,7 @@ impl<'a> Script<'a> {
 
     /// The sum that an ended pass named last.
     pub fn ended_with(&self) -> u64 {
-        self.port.answer[0]
+        self.port.sum()
     }
 
     /// A rebroadcast on both sides, with so many words taken off its list, and so many of an answer buffer.
@@ -644,7 +637,7 @@ impl<'a> Script<'a> {
             0 => (&[0, 1, 3, 20, 23, 27], port.return_to_pool(&given)),
             1 => (&[0, 1, 20], port.invalidate(time, &tx.id)),
             2 => (&[100, 1, 2, 20], port.apply_block_at(time, &block, room)),
-            3 => (&[102, 103, 1, 2, 21], port.next(room)),
+            3 => (&[102, 103, 1, 21], port.next()),
             4 => (&[101, 104, 105, 106, 1, 21], port.answer(&flags, tx.verdict)),
             5 => (&[0, 1, u64::MAX - 1], port.contains(time, &tx.id)),
             _ => (tally::OUTCOMES, port.process(&words, room)),

@@ -1045,8 +1045,7 @@ fn out_of_turn(s: &mut Script, boxes: &[Id], ids: &[Id]) {
             s.change(Form::Invalidate { time, id }.into());
         }
         _ => {
-            let room = s.rng.below(4) as usize;
-            s.change(Change { room, ..Form::Next.into() });
+            s.change(Form::Next.into());
         }
     }
 }

@@ -134,9 +134,14 @@ const CACHED: usize = 11;
 const BLOCK_SUM: usize = 12;
 const PEERS_USED: usize = 13;
 const PASS_OPEN: usize = 14;
-const WRITTEN: usize = 24;
 const STATE_WORDS: usize = 25;
 const STATS_WORDS: usize = 124;
+
+// Words of the result record.
+const WRITTEN: usize = 1;
+const ABOUT: usize = 2;
+const SUM: usize = 6;
+const RESULT_WORDS: usize = 16;
 
 /// A peer and what it was charged since the last block.
 #[repr(C)]
@@ -148,6 +153,9 @@ pub struct PeerRecord {
 
 extern "C" {
     fn gunthyd_start(
+        settings: *const u64,
+        settings_len: usize,
+        time: u64,
         entries: *const u64,
         entries_len: usize,
         boxes: *const u64,
@@ -155,8 +163,12 @@ extern "C" {
         cache: *const u64,
         cache_len: usize,
         peers: usize,
+        stats: *mut u64,
+        stats_len: usize,
         state: *mut u64,
         state_len: usize,
+        result: *mut u64,
+        result_len: usize,
     ) -> u64;
     fn gunthyd_process(
         entries: *mut u64,
@@ -171,6 +183,8 @@ extern "C" {
         answer_len: usize,
         state: *mut u64,
         state_len: usize,
+        result: *mut u64,
+        result_len: usize,
         sub: *const u64,
         sub_len: usize,
         inputs: *const u64,
@@ -185,6 +199,8 @@ extern "C" {
         boxes_len: usize,
         state: *mut u64,
         state_len: usize,
+        result: *mut u64,
+        result_len: usize,
         tx: *const u64,
         tx_len: usize,
         inputs: *const u64,
@@ -201,13 +217,14 @@ extern "C" {
         cache_len: usize,
         state: *mut u64,
         state_len: usize,
+        result: *mut u64,
+        result_len: usize,
         time: u64,
         a: u64,
         b: u64,
         c: u64,
         d: u64,
     ) -> u64;
-    fn gunthyd_start_stats(stats: *mut u64, stats_len: usize, time: u64) -> u64;
     fn gunthyd_apply_block_at(
         entries: *mut u64,
         entries_len: usize,
@@ -221,20 +238,30 @@ extern "C" {
         state_len: usize,
         stats: *mut u64,
         stats_len: usize,
+        result: *mut u64,
+        result_len: usize,
         time: u64,
         transactions: *const u64,
         transactions_len: usize,
         inputs: *const u64,
         inputs_len: usize,
     ) -> u64;
-    fn gunthyd_open(state: *mut u64, state_len: usize, time: u64, limit: u64, preheader: u32) -> u64;
+    fn gunthyd_open(
+        state: *mut u64,
+        state_len: usize,
+        result: *mut u64,
+        result_len: usize,
+        time: u64,
+        limit: u64,
+        preheader: u32,
+    ) -> u64;
     fn gunthyd_next(
         entries: *const u64,
         entries_len: usize,
         state: *mut u64,
         state_len: usize,
-        answer: *mut u64,
-        answer_len: usize,
+        result: *mut u64,
+        result_len: usize,
     ) -> u64;
     fn gunthyd_answer(
         entries: *mut u64,
@@ -245,6 +272,8 @@ extern "C" {
         cache_len: usize,
         state: *mut u64,
         state_len: usize,
+        result: *mut u64,
+        result_len: usize,
         flags: *const u64,
         flags_len: usize,
         verdict: u64,
@@ -491,6 +520,7 @@ pub struct Port {
     pub answer: Vec<u64>,
     pub state: [u64; STATE_WORDS],
     pub stats: [u64; STATS_WORDS],
+    pub result: [u64; RESULT_WORDS],
 }
 
 impl Port {
@@ -503,6 +533,7 @@ impl Port {
             answer: vec![0; store.answer_words],
             state: [0; STATE_WORDS],
             stats: [0; STATS_WORDS],
+            result: [0; RESULT_WORDS],
         }
     }
 
@@ -534,65 +565,72 @@ impl Port {
             s.block_limit,
             s.peer_limit,
         ];
-        self.state[..settings.len()].copy_from_slice(&settings);
-        let Port { entries, boxes, cache, peers, state, .. } = self;
-        let code = call!(gunthyd_start(ref entries, ref boxes, ref cache, peers.len(), mut state));
-        if code == 0 {
-            let stats = call!(gunthyd_start_stats(mut self.stats, 0));
-            assert_eq!(stats, 0);
-        }
-        code
+        let Port { entries, boxes, cache, peers, state, stats, result, .. } = self;
+        call!(gunthyd_start(
+            ref settings, 0, ref entries, ref boxes, ref cache, peers.len(), mut stats, mut state, mut result
+        ))
     }
 
     /// Submits, with the first `room` words of the answer buffer.
     #[inline]
     pub fn process(&mut self, s: &Submission, room: usize) -> u64 {
-        let Port { entries, boxes, cache, peers, state, .. } = self;
+        let Port { entries, boxes, cache, peers, state, result, .. } = self;
         let answer = &mut self.answer[..room];
         call!(gunthyd_process(
-            mut entries, mut boxes, mut cache, mut peers, mut answer, mut state, ref s.sub, ref s.inputs, ref s.outputs
+            mut entries, mut boxes, mut cache, mut peers, mut answer, mut state, mut result, ref s.sub, ref s.inputs, ref s.outputs
         ))
     }
 
     /// Gives a transaction back.
     #[inline]
     pub fn return_to_pool(&mut self, r: &GivenBack) -> u64 {
-        let Port { entries, boxes, state, .. } = self;
-        call!(gunthyd_return_to_pool(mut entries, mut boxes, mut state, ref r.tx, ref r.inputs, ref r.outputs))
+        let Port { entries, boxes, state, result, .. } = self;
+        call!(gunthyd_return_to_pool(
+            mut entries, mut boxes, mut state, mut result, ref r.tx, ref r.inputs, ref r.outputs
+        ))
     }
 
     pub fn invalidate(&mut self, time: u64, id: &Id) -> u64 {
         let [a, b, c, d] = words_of(id);
-        let Port { entries, boxes, cache, state, .. } = self;
-        call!(gunthyd_invalidate(mut entries, mut boxes, mut cache, mut state, time, a, b, c, d))
+        let Port { entries, boxes, cache, state, result, .. } = self;
+        call!(gunthyd_invalidate(mut entries, mut boxes, mut cache, mut state, mut result, time, a, b, c, d))
     }
 
     /// Applies a block, with the first `room` words of the answer buffer.
     #[inline]
     pub fn apply_block_at(&mut self, time: u64, block: &Block, room: usize) -> u64 {
-        let Port { entries, boxes, cache, state, stats, .. } = self;
+        let Port { entries, boxes, cache, state, stats, result, .. } = self;
         let answer = &mut self.answer[..room];
         call!(gunthyd_apply_block_at(
-            mut entries, mut boxes, mut cache, mut answer, mut state, mut stats, time, ref block.transactions, ref block.inputs
+            mut entries, mut boxes, mut cache, mut answer, mut state, mut stats, mut result, time, ref block.transactions, ref block.inputs
         ))
     }
 
     pub fn open(&mut self, time: u64, limit: u64, preheader: u32) -> u64 {
-        call!(gunthyd_open(mut self.state, time, limit, preheader))
+        call!(gunthyd_open(mut self.state, mut self.result, time, limit, preheader))
     }
 
-    /// The next candidate of the pass, or the sum, into the first `room` words of the answer buffer.
-    pub fn next(&mut self, room: usize) -> u64 {
-        let Port { entries, state, .. } = self;
-        let answer = &mut self.answer[..room];
-        call!(gunthyd_next(ref entries, mut state, mut answer))
+    /// The next candidate of the pass, or the sum, into the result.
+    pub fn next(&mut self) -> u64 {
+        let Port { entries, state, result, .. } = self;
+        call!(gunthyd_next(ref entries, mut state, mut result))
+    }
+
+    /// The id that the last changing call spoke of.
+    pub fn about(&self) -> Id {
+        id_of(&self.result[ABOUT..][..ID_WORDS])
+    }
+
+    /// The sum that the last changing call told.
+    pub fn sum(&self) -> u64 {
+        self.result[SUM]
     }
 
     pub fn answer(&mut self, flags: &[bool], verdict: Verdict) -> u64 {
         let flags: Vec<u64> = flags.iter().map(|flag| u64::from(*flag)).collect();
         let (verdict, cost) = verdict_words(verdict);
-        let Port { entries, boxes, cache, state, .. } = self;
-        call!(gunthyd_answer(mut entries, mut boxes, mut cache, mut state, ref flags, verdict, cost))
+        let Port { entries, boxes, cache, state, result, .. } = self;
+        call!(gunthyd_answer(mut entries, mut boxes, mut cache, mut state, mut result, ref flags, verdict, cost))
     }
 
     /// Writes the ids of the transactions to send again: how many, or the refusal.
@@ -633,7 +671,7 @@ impl Port {
 
     /// How many ids the last changing call wrote.
     pub fn written(&self) -> usize {
-        self.state[WRITTEN] as usize
+        self.result[WRITTEN] as usize
     }
 
     /// The ids that it wrote.

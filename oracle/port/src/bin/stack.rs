@@ -221,12 +221,12 @@ fn opened() -> Port {
 
 fn next() -> Ready {
     let mut port = opened();
-    Box::new(move || port.next(FULL.answer_words))
+    Box::new(move || port.next())
 }
 
 fn answer(flag: bool, verdict: Verdict) -> Ready {
     let mut port = opened();
-    assert_eq!(port.next(FULL.answer_words), CANDIDATE);
+    assert_eq!(port.next(), CANDIDATE);
     let flags = vec![flag; 5_000];
     Box::new(move || port.answer(&flags, verdict))
 }

@@ -1,6 +1,6 @@
--- `changes::apply` meets its contract: what apply_block_at says of the state and the statistics that were read, with the words that were stored.
--- Assumes nothing.
+-- `changes::apply` meets its contract: what apply_block_at says of the state and the statistics that were read, with the words that were stored. Assumes nothing.
 use Rattle.host.specs.Changes.{block-words}
+use Rattle.host.specs.Results.{says-by}
 use borrow.Author.Needs.{needs}
 use Rattle.host.proofs.changes.apply.Statement.{statement}
 use Rattle.host.proofs.changes.apply.Tie as tie
@@ -15,16 +15,16 @@ apply-block-by-value-requires : tie.Need-apply-block-by-value-requires
 apply-block-by-value-requires c κs = search needs
 
 store-stats-requires : tie.Need-store-stats-requires
-store-stats-requires c κs = c .before .before .before .before .before .before .before .before .before .before .before .before .before .before .before .before .before .before .before .before .before .before .before .before .before .before .before .before .pre .1
-
-block-written-requires : tie.Need-block-written-requires
-block-written-requires c κs = search needs
+store-stats-requires c κs = (c .before .before .before .before .before .before .before .before .before .before .before .before .before .before .before .before .before .before .before .before .before .before .before .before .before .before .before .before .before .pre .1)
 
 store-left-requires : tie.Need-store-left-requires
-store-left-requires c κs = c .before .before .before .before .before .before .before .before .before .before .before .before .before .before .before .before .before .before .before .before .before .before .before .before .before .before .before .before .before .before .before .before .before .pre .0
+store-left-requires c κs = (c .before .before .before .before .before .before .before .before .before .before .before .before .before .before .before .before .before .before .before .before .before .before .before .before .before .before .before .before .before .before .before .before .before .pre .0)
 
-block-code-requires : tie.Need-block-code-requires
-block-code-requires c κs = search needs
+block-told-requires : tie.Need-block-told-requires
+block-told-requires c κs = search needs
+
+put-requires : tie.Need-put-requires
+put-requires c κs = search needs
 
 same-length : tie.Need-same-length
 same-length c = search needs
@@ -44,8 +44,11 @@ same-length-5 c = search needs
 same-length-6 : tie.Need-same-length-6
 same-length-6 c = search needs
 
+same-length-7 : tie.Need-same-length-7
+same-length-7 c = search needs
+
 returns : tie.Need-returns
-returns c = block-words _ _ _ _ _ _ _ _ _ _ _ _ _ _ _ _ (c .before .before .before .before .before .before .before .before .before .before .before .before .before .before .before .before .before .before .before .before .apply-block-by-value .result) (c .before .before .before .before .before .before .before .before .before .before .before .before .before .before .before .before .before .before .before .before .before .before .before .before .before .before .before .before .before .before .before .before .before .before .before .before .before .pre .0) (c .before .before .before .before .before .before .before .before .before .before .before .before .before .before .before .before .before .before .before .before .before .before .before .before .before .before .before .before .before .before .before .before .before .before .before .before .before .pre .1) (c .before .before .before .before .before .before .before .before .before .before .before .before .before .before .before .before .before .before .before .before .before .before .before .before .before .before .before .load-state .ensures) (c .before .before .before .before .before .before .before .before .before .before .before .before .before .before .before .before .before .before .before .before .before .before .before .before .before .load-stats .ensures) (c .before .before .before .before .before .before .before .before .before .before .before .before .before .before .before .before .before .before .before .before .apply-block-by-value .ensures .0) (c .before .before .before .before .before .before .before .before .before .before .before .before .before .before .before .before .before .before .before .before .apply-block-by-value .ensures .1 .1 .0 .0) (c .before .before .before .before .before .before .before .before .before .before .before .before .before .before .before .before .before .before .before .before .apply-block-by-value .ensures .1 .1 .0 .1) (c .before .before .before .before .before .before .before .before .before .before .before .before .before .before .before .before .before .before .before .before .apply-block-by-value .ensures .1 .1 .1 .0) (c .before .before .before .before .before .before .before .before .before .before .before .before .before .before .before .before .before .before .before .before .apply-block-by-value .ensures .1 .1 .1 .1) (c .before .before .before .before .before .before .before .before .store-stats .ensures) (c .before .before .before .store-left .ensures) (c .before .before .before .before .before .before .before .before .before .before .before .before .before .before .before .before .before .before .before .before .apply-block-by-value .ensures .1 .0) (c .block-code .ensures) (c .before .before .before .before .block-written .ensures)
+returns c = block-words _ _ _ _ _ _ _ _ _ _ _ _ _ _ _ _ _ (c .before .before .before .before .before .before .before .before .before .before .before .before .before .before .before .before .before .before .before .before .before .before .before .apply-block-by-value .result) (c .before .before .before .before .before .before .before .before .before .before .before .before .before .before .before .before .before .before .before .before .before .before .before .before .before .before .before .before .before .before .before .before .before .before .before .before .before .before .before .before .before .pre .0) (c .before .before .before .before .before .before .before .before .before .before .before .before .before .before .before .before .before .before .before .before .before .before .before .before .before .before .before .before .before .before .before .before .before .before .before .before .before .before .before .before .before .pre .1) (c .before .before .before .before .before .before .before .before .before .before .before .before .before .before .before .before .before .before .before .before .before .before .before .before .before .before .before .before .before .before .load-state .ensures) (c .before .before .before .before .before .before .before .before .before .before .before .before .before .before .before .before .before .before .before .before .before .before .before .before .before .before .before .before .load-stats .ensures) (c .before .before .before .before .before .before .before .before .before .before .before .before .before .before .before .before .before .before .before .before .before .before .before .apply-block-by-value .ensures .0) (c .before .before .before .before .before .before .before .before .before .before .before .before .before .before .before .before .before .before .before .before .before .before .before .apply-block-by-value .ensures .1 .1 .0 .0) (c .before .before .before .before .before .before .before .before .before .before .before .before .before .before .before .before .before .before .before .before .before .before .before .apply-block-by-value .ensures .1 .1 .0 .1) (c .before .before .before .before .before .before .before .before .before .before .before .before .before .before .before .before .before .before .before .before .before .before .before .apply-block-by-value .ensures .1 .1 .1 .0) (c .before .before .before .before .before .before .before .before .before .before .before .before .before .before .before .before .before .before .before .before .before .before .before .apply-block-by-value .ensures .1 .1 .1 .1) (c .before .before .before .before .before .before .before .before .before .before .before .store-stats .ensures) (c .before .before .before .before .before .before .before .store-left .ensures) (c .before .before .before .before .before .before .before .before .before .before .before .before .before .before .before .before .before .before .before .before .before .before .before .apply-block-by-value .ensures .1 .0) (says-by (c .before .before .put .ensures) (c .before .before .before .block-told .ensures))
 
 pub apply-spec : {M : Type 1} → statement M
 apply-spec =
@@ -55,13 +58,14 @@ apply-spec =
     load-stats-requires
     apply-block-by-value-requires
     store-stats-requires
-    block-written-requires
     store-left-requires
-    block-code-requires
+    block-told-requires
+    put-requires
     same-length
     same-length-2
     same-length-3
     same-length-4
     same-length-5
     same-length-6
+    same-length-7
     returns)

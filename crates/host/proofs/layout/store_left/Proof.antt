@@ -1,4 +1,4 @@
--- `layout::store_left` meets its contract: six words, by two calls and two stores (`left-parts`). Assumes nothing.
+-- `layout::store_left` meets its contract: five words, by two calls and a store (`left-parts`). Assumes nothing.
 use native.Mathlib.Omega.{arith}
 use Rattle.host.specs.State.{left-parts}
 use lib.ListN.{length-set}
@@ -15,14 +15,11 @@ slice-write-s c = search needs
 store-sums-requires : tie.Need-store-sums-requires
 store-sums-requires c κs = simp length-set (omega arith)
 
-slice-write-s-2 : tie.Need-slice-write-s-2
-slice-write-s-2 c = omega (arith, simp length-set at (c .before .before .store-sums .kept .0), c .before .before .before .before .before .before .before .store-counts .kept .0)
-
 same-length : tie.Need-same-length
-same-length c = simp length-set (omega (arith, simp length-set at (c .before .before .store-sums .kept .0), c .before .before .before .before .before .before .before .store-counts .kept .0))
+same-length c = omega (arith, simp length-set at (c .before .before .store-sums .kept .0), (c .before .before .before .before .before .before .before .store-counts .kept .0))
 
 returns : tie.Need-returns
-returns c = left-parts _ _ _ _ _ _ _ _ _ (c .before .before .before .before .before .before .before .store-counts .ensures) (omega arith) (c .before .before .store-sums .ensures) (omega arith)
+returns c = left-parts _ _ _ _ _ _ _ (c .before .before .before .before .before .before .before .store-counts .ensures) (omega arith) (c .before .before .store-sums .ensures)
 
 pub store-left-spec : {M : Type 1} → statement M
 store-left-spec =
@@ -31,6 +28,5 @@ store-left-spec =
     store-counts-requires
     slice-write-s
     store-sums-requires
-    slice-write-s-2
     same-length
     returns)

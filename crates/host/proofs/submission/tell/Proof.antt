@@ -1,39 +1,48 @@
 -- `submission::tell` meets its contract: of a whole one the state is stored, of no other is a word. Assumes nothing.
-use mathlib.Core.Path.{refl}
 use Rattle.host.specs.Calls.{tells-whole, tells-none}
+use mathlib.Core.Path.{refl}
+use Rattle.host.specs.Results.{says-by}
 use borrow.Author.Needs.{needs}
 use Rattle.host.proofs.submission.tell.Statement.{statement}
 use Rattle.host.proofs.submission.tell.Tie as tie
 
-written-of-requires : tie.Need-written-of-requires
-written-of-requires c κs = search needs
+process-told-requires : tie.Need-process-told-requires
+process-told-requires c κs = search needs
 
 store-left-requires : tie.Need-store-left-requires
-store-left-requires c κs = search (needs, c .before .before .before .before .before .pre)
+store-left-requires c κs = search (needs, (c .before .before .before .before .before .before .pre))
 
-code-of-requires : tie.Need-code-of-requires
-code-of-requires c κs = search needs
+put-requires : tie.Need-put-requires
+put-requires c κs = search needs
 
 same-length : tie.Need-same-length
 same-length c = search needs
 
-returns : tie.Need-returns
-returns c = tells-whole _ _ (search needs) (c .before .before .before .store-left .ensures) (c .before .before .before .before .written-of .ensures) (search needs)
+same-length-2 : tie.Need-same-length-2
+same-length-2 c = search needs
 
-code-of-requires-2 : tie.Need-code-of-requires-2
-code-of-requires-2 c κs = search needs
+returns : tie.Need-returns
+returns c = tells-whole _ _ _ _ (search needs) (c .before .before .before .before .before .before .store-left .ensures) (says-by (c .before .before .put .ensures) (c .before .before .before .before .before .before .before .before .before .before .process-told .ensures))
+
+put-requires-2 : tie.Need-put-requires-2
+put-requires-2 c κs = search needs
+
+same-length-3 : tie.Need-same-length-3
+same-length-3 c = search needs
 
 returns-2 : tie.Need-returns-2
-returns-2 c = tells-none _ _ (search needs) refl (search needs)
+returns-2 c = tells-none _ _ _ _ (search needs) refl (says-by (c .before .before .put2 .ensures) (c .before .before .before .before .before .process-told .ensures))
 
 pub tell-spec : {M : Type 1} → statement M
 tell-spec =
     tie.close
     (tie.spec
-    written-of-requires
+    process-told-requires
     store-left-requires
-    code-of-requires
+    put-requires
     same-length
+    same-length-2
     returns
-    code-of-requires-2
+    put-requires-2
+    same-length-3
     returns-2)
