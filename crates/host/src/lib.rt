@@ -49,8 +49,8 @@
 // a, b, c, d are an id's four words, the first bytes first. Lent tables: 18 E + 2 words for E entries, 13 S + 2 for R box
 // records and 7 S + 2 for K cached ids, where S is 5/4 of R or K, rounded up, and 256 peer records (docs/DECISIONS.md, D1). The last word of
 // each of the first three is the key of its buckets: a number that peers do not know, put there before the start (D9c).
-// Lists: inputs 4 words each; outputs 7 of a submission, 5 of a return; transactions of a block 5 (D3, D4); flags, one word for each input of the
-// candidate, 0 for not confirmed; confirmed boxes 4. A verdict and its cost are two words as in a submission.
+// Lists: inputs of a submission 5 words each, the id and a flag, 0 for not confirmed; of a return and a block 4; outputs 7 of a submission, 5 of a
+// return; transactions of a block 5 (D3, D4); flags, one word for each input of the candidate; confirmed boxes 4. A verdict and its cost are two words as in a submission.
 //
 //     settings, 9 words                                 a submission, 11 words
 //      0 capacity               5 invalidation_ttl       0 time
