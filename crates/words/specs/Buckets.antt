@@ -11,14 +11,14 @@ use Rattle.words.specs.Lists.{pick}
 
 -- what a half of the last word is multiplied by
 abbrev pub factor : ℕ → ℕ → ℕ
-factor half constant = (half % 2 ^ 31 + constant) % 2 ^ 31
+factor half constant = (half % 2 ^ 31 + constant) % 2 ^ 31 * 2 + 1
 
 -- a place among n for a number x below 2^32
 unfoldable pub placeIn : ℕ → ℕ → ℕ
 placeIn x n = pick (ltb n (2 ^ 32)) (x * n / 2 ^ 32) (x % n)
 
 unfoldable pub bucketOf : ℕ → ℕ → ℕ → ℕ
-bucketOf d k n = placeIn ((d % 2 ^ 32 * factor k 1540483477 + d / 2 ^ 32 * factor (k / 2 ^ 31) 461845907) / 2 ^ 32 % 2 ^ 32) n
+bucketOf d k n = placeIn ((d % 2 ^ 32 * factor k 1540483477 % 2 ^ 32 + d / 2 ^ 32 * factor (k / 2 ^ 31) 461845907 % 2 ^ 32) % 2 ^ 32) n
 
 pub place-low : (x n : ℕ) → x < 2 ^ 32 → 0 < n → placeIn x n < n
 unfolding placeIn
@@ -31,4 +31,4 @@ place-low x n h p = low (ltb n (2 ^ 32))
 pub bucket-low : (d k n : ℕ) → 0 < n → bucketOf d k n < n
 unfolding bucketOf
 bucket-low d k n h =
-    place-low ((d % 2 ^ 32 * factor k 1540483477 + d / 2 ^ 32 * factor (k / 2 ^ 31) 461845907) / 2 ^ 32 % 2 ^ 32) n (omega arith) h
+    place-low ((d % 2 ^ 32 * factor k 1540483477 % 2 ^ 32 + d / 2 ^ 32 * factor (k / 2 ^ 31) 461845907 % 2 ^ 32) % 2 ^ 32) n (omega arith) h

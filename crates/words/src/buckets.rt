@@ -25,13 +25,15 @@ fn place_in(x: u64, n: usize) -> usize
     (x % m) as usize
 }
 
-// The bucket, of n, of ids whose last word is `d`: both halves of the word times a factor each, and the high half of the sum tells the place.
+// The bucket, of n, of ids whose last word is `d`: both halves of the word times an odd factor each, and of the sum the upper bits of its low half, so
+// that ids that differ little are as far apart as any.
 pub fn bucket_of(d: u64, key: u64, n: usize) -> usize
     requires { ⌜ 0 < n ⌝ }
     ensures { λ r. ⌜ (r ≡ bucketOf d key n) × (r < n) ⌝ }
 {
-    let a = (key % FACTORS + FIRST) % FACTORS;
-    let b = (key / FACTORS % FACTORS + SECOND) % FACTORS;
-    let sum = d % HALF * a + d / HALF * b;
-    place_in(sum / HALF % HALF, n)
+    let a = (key % FACTORS + FIRST) % FACTORS * 2 + 1;
+    let b = (key / FACTORS % FACTORS + SECOND) % FACTORS * 2 + 1;
+    let low = d % HALF * a % HALF;
+    let high = d / HALF * b % HALF;
+    place_in((low + high) % HALF, n)
 }

@@ -72,9 +72,10 @@ pub const fn slots(records: usize) -> usize {
 /// The bucket, of so many, of ids whose last word is `d`: as crate `words` has it (src/buckets.rt).
 pub const fn bucket_of(d: u64, key: u64, buckets: u64) -> u64 {
     const FACTORS: u64 = 1 << 31;
-    let a = (key % FACTORS + 1_540_483_477) % FACTORS;
-    let b = (key / FACTORS % FACTORS + 461_845_907) % FACTORS;
-    let x = ((d % (1 << 32)) * a + (d >> 32) * b) >> 32;
+    const HALF: u64 = 1 << 32;
+    let a = (key % FACTORS + 1_540_483_477) % FACTORS * 2 + 1;
+    let b = (key / FACTORS % FACTORS + 461_845_907) % FACTORS * 2 + 1;
+    let x = ((d % HALF) * a % HALF + (d >> 32) * b % HALF) % HALF;
     if buckets < 1 << 32 {
         return (x * buckets) >> 32;
     }
