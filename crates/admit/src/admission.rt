@@ -35,7 +35,7 @@ const MAX_TX_INPUTS: usize = 5000;
 const CONFLICT_WORDS: usize = MAX_TX_INPUTS * 4;
 
 // What an admission leaves beside the tables and the answer buffer.
-#[derive(Drop)]
+#[derive(Clone, Copy)]
 pub struct Admission {
     pub counts: Counts,
     pub outcome: ProcessingOutcome,

@@ -15,7 +15,7 @@ use pool_types::Counts;
 use words::ids::Id;
 
 // What an eviction leaves: the counts, and how many went.
-#[derive(Drop)]
+#[derive(Clone, Copy)]
 pub struct Evicted {
     pub counts: Counts,
     pub n: usize,

@@ -1,5 +1,7 @@
 // Credits to parents where the 500 visits are fewer than the ancestors: 600 transactions in a row, and a newcomer behind them. The line of `stdout` is
 // worked out by hand from document 01. (A program of its own: `rt try` runs it natively, and its interpreter stops at 10,000,000 steps.)
+#![tactic(auto)]
+
 use family_pools::{arrive, enter, nothing, show};
 use pool_types::Counts;
 

@@ -1,4 +1,6 @@
 // Ids written to an answer buffer that the caller lends, four words for each, from its first place on.
+#![tactic(auto)]
+
 ghost use Rattle.std.specs.Prelude.{◌≡◌, ◌∷◌, [], ◌+◌, ◌≤◌};
 ghost use Rattle.words.specs.Ids.{id_of};
 ghost use Rattle.words.specs.Sums.{cap};

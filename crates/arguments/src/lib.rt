@@ -1,4 +1,6 @@
 // The lists that calls bring, read record by record.
+#![tactic(auto)]
+
 ghost use Rattle.std.specs.Prelude.{◌≡◌, ◌&&◌};
 ghost use Prim.Native.Nat.{◌+◌, ◌*◌, ◌<◌, ◌≤◌, ◌/◌};
 ghost use lib.ListN.{length};
@@ -7,7 +9,7 @@ ghost use Rattle.arguments.specs.Arguments.{whole, records, field, fee_at, fee_s
 use words::sums::saturating_add;
 
 // The sum of the flagged values, or that it passes 2^64−1.
-#[derive(Drop)]
+#[derive(Clone, Copy)]
 pub enum FeeSum {
     Sum(u64),
     Beyond,

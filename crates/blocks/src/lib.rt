@@ -1,6 +1,8 @@
 // A block: the transactions that it confirms leave the pool and are counted in the statistics, those that spend a confirmed input leave too, and
 // the charges begin anew. The store is plain words that the caller lends, the statistics are lent and changed in place, the state goes in and out by
 // value.
+#![tactic(auto)]
+
 ghost use Rattle.std.specs.Prelude.{◌≡◌, true, false, List, ℕ, ◌-◌, ◌/◌, ◌≤◌, length};
 ghost use Rattle.words.specs.Lists.{pick};
 ghost use Rattle.words.specs.Ids.{id_of};
@@ -33,14 +35,14 @@ use store::{fits_cache, unfit};
 use words::ids::{Id, same_id};
 
 // What a block hands back: the state, and what it answers.
-#[derive(Drop)]
+#[derive(Clone, Copy)]
 pub struct Blocked {
     pub mempool: Mempool,
     pub outcome: BlockOutcome,
 }
 
 // .. and the statistics, where they go in and out by value.
-#[derive(Drop)]
+#[derive(Clone, Copy)]
 pub struct Applied {
     pub mempool: Mempool,
     pub stats: FeeStats,
@@ -48,14 +50,14 @@ pub struct Applied {
 }
 
 // What goes from step to step: how much of the tables is in use, and how many ids were written.
-#[derive(Drop)]
+#[derive(Clone, Copy)]
 struct Removal {
     counts: Counts,
     written: usize,
 }
 
 // Whether a transaction is pooled, and then when it was made and its base weight.
-#[derive(Drop)]
+#[derive(Clone, Copy)]
 struct Seen {
     hit: bool,
     created: u64,
@@ -64,7 +66,7 @@ struct Seen {
 
 // What goes from one confirmation to the next: the refusal, or 0; how many ids the cache holds; the next transaction of the block and its first input;
 // what the steps so far left; and whether one is to be recorded, with what.
-#[derive(Drop)]
+#[derive(Clone, Copy)]
 struct Run {
     code: u64,
     cached: usize,

@@ -16,7 +16,7 @@ use words::buckets::bucket_of;
 use words::ids::Id;
 
 // A slot that a search found, if it found one.
-#[derive(Drop)]
+#[derive(Clone, Copy)]
 pub enum Slot {
     At(usize),
     Nowhere,

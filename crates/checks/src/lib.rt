@@ -1,4 +1,6 @@
 // The tests of a submission up to its verdict. Each function gives the number of the first test that fails, and 0 where none does.
+#![tactic(auto)]
+
 ghost use Rattle.std.specs.Prelude.{◌≡◌, true, false, ◌&&◌, ◌∷◌, ◌+◌, ◌≤◌, ltb};
 ghost use Rattle.words.specs.Sums.{cap};
 ghost use Rattle.arguments.specs.Arguments.{whole, records, max_inputs, fee_of, height_key, ahead_of};

@@ -1,5 +1,7 @@
 // A pass over the pool, in three calls: open it, ask for the next candidate, answer what is known of it; and the transactions to send again. The
 // store is plain words that the caller lends, the state goes in and out by value.
+#![tactic(auto)]
+
 pub mod rebroadcast;
 
 ghost use Rattle.std.specs.Prelude.{◌≡◌, true, false, not, List, [], ◌∷◌, ℕ, ◌+◌, ◌≤◌, max, leb, length};
@@ -44,19 +46,19 @@ use words::ids::Id;
 use words::sums::{saturating_add, saturating_sub};
 
 // What the calls hand back: the state, and what they answer.
-#[derive(Drop)]
+#[derive(Clone, Copy)]
 pub struct Opened {
     pub mempool: Mempool,
     pub outcome: OpenOutcome,
 }
 
-#[derive(Drop)]
+#[derive(Clone, Copy)]
 pub struct Offered {
     pub mempool: Mempool,
     pub outcome: NextOutcome,
 }
 
-#[derive(Drop)]
+#[derive(Clone, Copy)]
 pub struct Answered {
     pub mempool: Mempool,
     pub outcome: AnswerOutcome,
@@ -129,7 +131,7 @@ fn is_ahead(key: u64, preheader: u32) -> bool
 }
 
 // What an entry is to the pass: passed over, the place where it stops because its sum has reached the limit, or the candidate.
-#[derive(Drop)]
+#[derive(Clone, Copy)]
 enum Look {
     Over,
     Stop,

@@ -7,7 +7,7 @@ use lines::read::{BlockForm, Form, PoolForm, ReturnForm, TxForm};
 use words::ids::Id;
 
 // What changes nothing. `charges` and `written` are no calls of the pool: they read what poolrun holds.
-#[derive(Drop)]
+#[derive(Clone, Copy)]
 pub enum Query {
     // at most so many entries
     Listing(u64),
@@ -29,7 +29,7 @@ pub enum Query {
 }
 
 // What changes the pool.
-#[derive(Drop)]
+#[derive(Clone, Copy)]
 pub enum Change {
     Submit(TxForm),
     Return(ReturnForm),
@@ -43,7 +43,7 @@ pub enum Change {
     Answer(usize, Verdict),
 }
 
-#[derive(Drop)]
+#[derive(Clone, Copy)]
 pub enum Call {
     Start(PoolForm),
     Alter(Change),
@@ -53,7 +53,7 @@ pub enum Call {
 }
 
 // How many words the lists of a form have in the two slices that they are read into.
-#[derive(Drop)]
+#[derive(Clone, Copy)]
 pub struct Words {
     pub one: usize,
     pub two: usize,

@@ -1,4 +1,6 @@
 // What poolrun does with a line that was read: makes the call and prints the answer into `out`. All memory is lent.
+#![tactic(auto)]
+
 pub mod answer;
 pub mod block;
 pub mod calls;
@@ -25,7 +27,7 @@ use stats::FeeStats;
 
 // What is held between lines: the pool's state once there is one, its statistics, and how many ids the last changing call wrote into the answer
 // buffer.
-#[derive(Drop)]
+#[derive(Clone, Copy)]
 pub struct Kept {
     pub ready: bool,
     pub mempool: Mempool,
@@ -34,7 +36,7 @@ pub struct Kept {
 }
 
 // A line's effect: what is held after it, and the length of its answer.
-#[derive(Drop)]
+#[derive(Clone, Copy)]
 pub struct Told {
     pub kept: Kept,
     pub len: usize,

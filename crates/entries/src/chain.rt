@@ -11,14 +11,14 @@ use crate::cells::{HEAD, LAST, LINK, USE, get, id_in, put, raw, slots};
 use words::buckets::bucket_of;
 use words::ids::{Id, same_id};
 
-#[derive(Drop)]
+#[derive(Clone, Copy)]
 pub enum Slot {
     In(usize),
     Absent,
 }
 
 // A place in a chain: `above` is one more than the slot above it, or 0 for the head; `below` is what is linked to there.
-#[derive(Drop)]
+#[derive(Clone, Copy)]
 pub struct Cut {
     pub above: usize,
     pub below: usize,

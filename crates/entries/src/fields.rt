@@ -12,13 +12,13 @@ ghost use Rattle.entries.specs.Crediting.{Stamps};
 use crate::cells::{SLOT, get, id_in, put, slot_at, slots};
 use words::ids::{Id, put_four, put_id};
 
-#[derive(Drop)]
+#[derive(Clone, Copy)]
 pub enum ValidationCost {
     Unmeasured,
     Measured(u64),
 }
 
-#[derive(Drop)]
+#[derive(Clone, Copy)]
 pub struct PoolEntry {
     pub id: Id,
     pub weight: u64,
@@ -97,7 +97,7 @@ pub fn created_at(s: &[u64], i: usize) -> u64
 }
 
 // When an entry came, and its base: what a histogram asks of every entry. Its slot is looked up once.
-#[derive(Drop)]
+#[derive(Clone, Copy)]
 pub struct Since {
     pub created: u64,
     pub base: u64,

@@ -18,7 +18,7 @@ use crate::order::{rank, turn_in, turn_out};
 use words::ids::Id;
 use words::sums::saturating_add;
 
-#[derive(Drop)]
+#[derive(Clone, Copy)]
 pub enum Place {
     At(usize),
     Nowhere,

@@ -1,5 +1,7 @@
 // Ids once found invalid, in order of insertion: rows in a window of slots in a lent slice. A row enters behind the window, the oldest leave by
 // its start, and where it reaches the last slot it is moved to the front. The state is the number of rows; a fresh cache has 0, whatever its words are.
+#![tactic(auto)]
+
 mod links;
 mod rows;
 

@@ -16,7 +16,7 @@ use words::buckets::bucket_of;
 use words::ids::{Id, same_id};
 use words::sums::saturating_sub;
 
-#[derive(Drop)]
+#[derive(Clone, Copy)]
 pub enum Found {
     Since(u64),
     Absent,

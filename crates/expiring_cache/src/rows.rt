@@ -9,7 +9,7 @@ ghost use Rattle.expiring_cache.specs.Layout.{slots_in, Five, row_at, row_words,
 use words::ids::{Id, load_id};
 use words::sums::smaller;
 
-#[derive(Drop)]
+#[derive(Clone, Copy)]
 pub struct Row {
     pub id: Id,
     pub since: u64,

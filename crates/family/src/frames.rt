@@ -7,7 +7,7 @@ use words::ids::{Id, load_id, put_id};
 
 pub const FRAME_WORDS: usize = 5;
 
-#[derive(Drop)]
+#[derive(Clone, Copy)]
 pub struct Frame {
     pub id: Id,
     pub bound: usize,

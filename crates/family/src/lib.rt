@@ -1,5 +1,7 @@
 // Credits to parents: a newcomer's base is added to the weight of each pooled transaction that its inputs come from, directly or through
 // others, once for every chain of spends.
+#![tactic(auto)]
+
 ghost use Rattle.std.specs.Prelude.{◌+◌, ◌<◌, length};
 ghost use Rattle.words.specs.Ids.{id_of};
 ghost use Rattle.entries.specs.Layout.{EntriesKept};
@@ -24,7 +26,7 @@ const MAX_PARENT_SCAN_DEPTH: usize = 500;
 const STACK_WORDS: usize = (MAX_PARENT_SCAN_DEPTH + 1) * FRAME_WORDS;
 
 // How many frames are open, and how many visits are left.
-#[derive(Drop)]
+#[derive(Clone, Copy)]
 struct Progress {
     depth: usize,
     budget: usize,

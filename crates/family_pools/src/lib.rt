@@ -1,5 +1,7 @@
 // What the programs that run the walk share: small pools are entered transaction by transaction, a newcomer credits its family, and the entries are
 // printed in priority order, each with its weight.
+#![tactic(auto)]
+
 use boxes::lists::count_of;
 use entries::fields::{PoolEntry, ValidationCost, id_at, weight_at};
 use family::propagate_family_weight;

@@ -1,5 +1,7 @@
 // Credits to parents, run: small pools and what a newcomer's walk makes of the weights. A line has the entries in priority order, each with
 // its weight. The lines of `stdout` are worked out by hand from document 01.
+#![tactic(auto)]
+
 use family_pools::{arrive, enter, nothing, show_all};
 use pool_types::Counts;
 

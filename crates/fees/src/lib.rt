@@ -1,5 +1,7 @@
 // The fee queries: what to pay for a wait, how long a fee will wait, and how long the pool has waited so far. They change nothing but the
 // answer buffer.
+#![tactic(auto)]
+
 ghost use Rattle.std.specs.Prelude.{◌≡◌, ◌+◌, ◌-◌, ◌*◌, ◌≤◌, ◌<◌, max, ltb, length, replicate};
 ghost use Rattle.words.specs.Lists.{pick};
 ghost use Rattle.words.specs.Sums.{quotient_of};

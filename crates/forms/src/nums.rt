@@ -6,13 +6,13 @@ ghost use Rattle.forms.specs.Nums.{digit_of, Numeral, number, is_digits, decimal
 use crate::text::within;
 use words::ids::Id;
 
-#[derive(Drop)]
+#[derive(Clone, Copy)]
 pub enum Number {
     Value(u64),
     NoNumber,
 }
 
-#[derive(Drop)]
+#[derive(Clone, Copy)]
 pub enum IdRead {
     Of(Id),
     NoId,

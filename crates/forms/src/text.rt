@@ -4,7 +4,7 @@ ghost use Rattle.std.specs.Prelude.{◌≡◌, ℕ, ◌+◌, ◌-◌, ◌≤◌,
 ghost use Rattle.forms.specs.Text.{within, is_word, is_space, run, Gap, Next, Form, Inside, Opened, WordHere, ListHere, EndHere};
 
 // What stands at a place inside a list.
-#[derive(Drop)]
+#[derive(Clone, Copy)]
 pub enum Member {
     // a word, from its first byte up to the second number
     Word(usize, usize),
@@ -16,7 +16,7 @@ pub enum Member {
 }
 
 // The place past what was read, or none.
-#[derive(Drop)]
+#[derive(Clone, Copy)]
 pub enum Past {
     At(usize),
     Not,
@@ -177,7 +177,7 @@ pub fn read_line(line: &[u8]) -> Past
 }
 
 // A word's start and end; or a list's inside and the place past it.
-#[derive(Drop)]
+#[derive(Clone, Copy)]
 pub enum Span {
     Is(usize, usize),
     Isnt,

@@ -15,7 +15,7 @@ use words::ids::{Id, put_id};
 pub const RESULT_WORDS: usize = 16;
 
 // What a result record says: the number, how many ids were written, the id spoken of, and a sum.
-#[derive(Drop)]
+#[derive(Clone, Copy)]
 pub struct Told {
     code: u64,
     written: u64,

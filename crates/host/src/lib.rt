@@ -92,6 +92,8 @@
 // the settings in words 0 to 8 of the state, clears the others and empties the statistics, their window at `time`; open, next and answer change 9 to
 // 23; any other changing call changes 9 to 13, and no other word of the state. Every changing call fills the result. A refusal leaves every other word
 // that is lent; but for what 9, 10, 29 and 30 say.
+#![tactic(auto)]
+
 pub mod changes;
 pub mod codes;
 pub mod fee_queries;

@@ -16,7 +16,7 @@ use process::{Processed, process};
 use words::ids::Id;
 
 // What the words ask: the state and the submission that they hold. Where there are too few of them it is not whole, and the state is one that no table fits.
-#[derive(Drop)]
+#[derive(Clone, Copy)]
 struct Asked {
     whole: bool,
     mempool: Mempool,

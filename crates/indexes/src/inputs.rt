@@ -58,7 +58,7 @@ pub fn count_inputs(s: &[u64], n: usize, id: Id) -> usize
 }
 
 // The producer of an input, and the slot of the input's record.
-#[derive(Drop)]
+#[derive(Clone, Copy)]
 pub enum Parent {
     Of(Id, usize),
     NoParent,

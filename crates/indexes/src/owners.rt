@@ -11,7 +11,7 @@ use boxes::rows::box_owner;
 use words::ids::Id;
 
 // Who spends or produces a box.
-#[derive(Drop)]
+#[derive(Clone, Copy)]
 pub enum Owner {
     By(Id),
     Nobody,

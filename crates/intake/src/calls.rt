@@ -8,20 +8,20 @@ use crate::lines::{
     LAST_AT, LINE_WORDS, LINES, Next, PLACES, QUEUE_WORDS, append, held, next_line, take,
 };
 
-#[derive(Drop)]
+#[derive(Clone, Copy)]
 pub enum StartOutcome {
     Ready,
     NotStarted(u64),
 }
 
-#[derive(Drop)]
+#[derive(Clone, Copy)]
 pub enum PutOutcome {
     Stored,
     Refused(u64),
 }
 
 // A line and its oldest handle, or that every line is empty.
-#[derive(Drop)]
+#[derive(Clone, Copy)]
 pub enum TurnOutcome {
     Served(u64, u64),
     Nothing,

@@ -11,6 +11,8 @@
 //
 // A queue has 4,609 words: line i from word 18 × i on (head, tail, 16 places), and in word 4,608 the line served last. On fewer words start
 // answers 1 (refusal 1), put 32 and turn 0; so does turn where the answer has fewer than 2 words. Nothing changes then.
+#![tactic(auto)]
+
 pub mod calls;
 pub mod lines;
 

@@ -18,7 +18,7 @@ pub const QUEUE_WORDS: usize = 4609;
 const WRAP: u64 = 4294967296;
 
 // The next line that holds a handle, or that there is none.
-#[derive(Drop)]
+#[derive(Clone, Copy)]
 pub enum Next {
     Line(usize),
     NoLine,

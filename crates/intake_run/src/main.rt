@@ -1,5 +1,7 @@
 // The intake's exported calls, run over the wrap at 2^32. A line has what each put answered, or line and handle of each turn. The lines of `stdout`
 // are worked out by hand from document 02, "Ask 11".
+#![tactic(auto)]
+
 ghost use Rattle.std.specs.Prelude.{◌+◌, ◌<◌};
 
 use intake::{gunthyd_intake_put, gunthyd_intake_start, gunthyd_intake_turn};

@@ -1,1 +1,3 @@
 // The ledger has no code of its own: its theorem stands in specs/.
+#![tactic(auto)]
+

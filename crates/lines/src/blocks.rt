@@ -8,7 +8,7 @@ use forms::text::{Span, end_here, list_here};
 use words::ids::put_id;
 
 // The words that were written into both slices, and the place behind the list.
-#[derive(Drop)]
+#[derive(Clone, Copy)]
 pub struct BlockField {
     pub transactions: usize,
     pub inputs: usize,
@@ -16,7 +16,7 @@ pub struct BlockField {
 }
 
 // The words that were written, and whether the list was read whole.
-#[derive(Drop)]
+#[derive(Clone, Copy)]
 struct Transactions {
     transactions: usize,
     inputs: usize,

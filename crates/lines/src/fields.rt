@@ -9,32 +9,32 @@ use forms::nums::{IdRead, Number, read_decimal, read_id};
 use forms::text::{Span, end_here, list_here, word_here};
 use words::ids::Id;
 
-#[derive(Drop)]
+#[derive(Clone, Copy)]
 pub struct NumberField {
     pub value: u64,
     pub next: usize,
 }
 
-#[derive(Drop)]
+#[derive(Clone, Copy)]
 pub struct SmallField {
     pub value: u32,
     pub next: usize,
 }
 
-#[derive(Drop)]
+#[derive(Clone, Copy)]
 pub struct IdField {
     pub value: Id,
     pub next: usize,
 }
 
 // A number, or a word in its place.
-#[derive(Drop)]
+#[derive(Clone, Copy)]
 pub enum Optional {
     Some(u64),
     Absent,
 }
 
-#[derive(Drop)]
+#[derive(Clone, Copy)]
 pub struct OptionField {
     pub value: Optional,
     pub next: usize,
@@ -185,21 +185,21 @@ pub fn number_or(line: &[u8], at: usize, word: &[u8]) -> OptionField
     }
 }
 
-#[derive(Drop)]
+#[derive(Clone, Copy)]
 pub enum Verdict {
     Valid(u64),
     Invalid,
     NoVerdict,
 }
 
-#[derive(Drop)]
+#[derive(Clone, Copy)]
 pub struct VerdictField {
     pub value: Verdict,
     pub next: usize,
 }
 
 // What stands inside a verdict's brackets, and whether it is one.
-#[derive(Drop)]
+#[derive(Clone, Copy)]
 struct Inside {
     value: Verdict,
     whole: bool,

@@ -9,7 +9,7 @@ use forms::text::{Span, end_here, list_here};
 use words::ids::{Id, put_id};
 
 // The kinds of records.
-#[derive(Drop)]
+#[derive(Clone, Copy)]
 pub enum Records {
     Boxes,
     Flags,
@@ -19,14 +19,14 @@ pub enum Records {
 }
 
 // The number of words that were written, and the place behind the list.
-#[derive(Drop)]
+#[derive(Clone, Copy)]
 pub struct ListField {
     pub words: usize,
     pub next: usize,
 }
 
 // The words that were written, and whether the list was read whole.
-#[derive(Drop)]
+#[derive(Clone, Copy)]
 struct Items {
     words: usize,
     whole: bool,

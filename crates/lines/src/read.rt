@@ -13,7 +13,7 @@ use forms::text::{Past, Span, end_here, read_line, word_here};
 use words::ids::Id;
 
 // The settings, in the order of `MempoolConfig`.
-#[derive(Drop)]
+#[derive(Clone, Copy)]
 pub struct PoolForm {
     pub capacity: u64,
     pub min_fee: u64,
@@ -28,7 +28,7 @@ pub struct PoolForm {
 }
 
 // A submission. `inputs` and `outputs` count the words that its lists have in the two lent slices.
-#[derive(Drop)]
+#[derive(Clone, Copy)]
 pub struct TxForm {
     pub time: u64,
     pub id: Id,
@@ -42,7 +42,7 @@ pub struct TxForm {
 }
 
 // A return. `inputs` and `outputs` count words, as in a submission.
-#[derive(Drop)]
+#[derive(Clone, Copy)]
 pub struct ReturnForm {
     pub id: Id,
     pub fee: u64,
@@ -57,14 +57,14 @@ pub struct ReturnForm {
 }
 
 // A block. `transactions` counts the words of its records in the first slice, `inputs` those of all their boxes in the second.
-#[derive(Drop)]
+#[derive(Clone, Copy)]
 pub struct BlockForm {
     pub time: u64,
     pub transactions: usize,
     pub inputs: usize,
 }
 
-#[derive(Drop)]
+#[derive(Clone, Copy)]
 pub enum Form {
     Pool(PoolForm),
     Tx(TxForm),

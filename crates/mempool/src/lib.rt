@@ -1,4 +1,6 @@
 // The pool as its host calls it.
+#![tactic(auto)]
+
 pub mod listing;
 pub mod queries;
 

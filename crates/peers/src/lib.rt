@@ -1,5 +1,7 @@
 // What each peer was charged since the last block: records in a lent slice, of which the first `used` are in use. A block frees them
 // all by setting that count to 0. `find_peer` and `charge_peer` are thin over the methods by value.
+#![tactic(auto)]
+
 ghost use Rattle.std.specs.Prelude.{◌≡◌, ◌≤◌, ◌<◌, eqb, length, drop};
 ghost use Rattle.words.specs.Sums.{cap};
 ghost use Rattle.peers.specs.Peers.{peers_of, standing, charge_peer, place_of, used_after, charged_record, at_limit, none_free};
@@ -7,7 +9,7 @@ ghost use Rattle.peers.specs.Peers.{peers_of, standing, charge_peer, place_of, u
 use words::sums::saturating_add;
 
 #[repr(C)]
-#[derive(Drop)]
+#[derive(Clone, Copy)]
 pub struct PeerRecord {
     pub peer: u64,
     pub cost: u64,
@@ -23,7 +25,7 @@ impl PeerRecord {
 }
 
 // Where a peer stands among the records in use: the index of its record and its sum, or that it has none.
-#[derive(Drop)]
+#[derive(Clone, Copy)]
 pub enum Standing {
     Has(usize, u64),
     Free,

@@ -1,5 +1,7 @@
 // The ordered pool: the entries in priority order and the box records, both in words that the caller lends. `Counts` says how much of
 // them is in use; it goes through every call.
+#![tactic(auto)]
+
 ghost use Rattle.std.specs.Prelude.{◌≡◌, true, false, not, ◌+◌, ◌≤◌, ◌<◌};
 ghost use Rattle.words.specs.Ids.{id_of};
 ghost use Rattle.words.specs.Find.{last};

@@ -1,15 +1,17 @@
 // What the pool's calls take, hand on and answer.
+#![tactic(auto)]
+
 use words::ids::Id;
 
 // How a transaction is weighed: by its size, or by its cost.
-#[derive(Drop)]
+#[derive(Clone, Copy)]
 pub enum FeeStrategy {
     FeePerByte,
     FeePerCycle,
 }
 
 // The settings, fixed at the start, in the order of the Rust's and without its reward delay.
-#[derive(Drop)]
+#[derive(Clone, Copy)]
 pub struct MempoolConfig {
     pub capacity: usize,
     pub min_fee: u64,
@@ -23,21 +25,21 @@ pub struct MempoolConfig {
 }
 
 // How much of the lent tables is in use: entries, and slots of box records, vacated ones included. Only crate `pool` changes it.
-#[derive(Drop)]
+#[derive(Clone, Copy)]
 pub struct Counts {
     pub pooled: usize,
     pub records: usize,
 }
 
 // What remote submissions were charged since the last block: the block sum, and how many peers have a record.
-#[derive(Drop)]
+#[derive(Clone, Copy)]
 pub struct Sums {
     pub interblock_cost: u64,
     pub peers: usize,
 }
 
 // A pass: `open` from open to ended, `out` while a candidate waits for its answer.
-#[derive(Drop)]
+#[derive(Clone, Copy)]
 pub struct Pass {
     pub open: bool,
     pub out: bool,
@@ -49,7 +51,7 @@ pub struct Pass {
 }
 
 // The state that goes through every call: handed in by value, and handed back.
-#[derive(Drop)]
+#[derive(Clone, Copy)]
 pub struct Mempool {
     pub config: MempoolConfig,
     pub counts: Counts,
@@ -59,7 +61,7 @@ pub struct Mempool {
 }
 
 // What the validator said of a transaction.
-#[derive(Drop)]
+#[derive(Clone, Copy)]
 pub enum Verdict {
     Valid(u64),
     Invalid,
@@ -67,14 +69,14 @@ pub enum Verdict {
 }
 
 // Who submitted it.
-#[derive(Drop)]
+#[derive(Clone, Copy)]
 pub enum Source {
     Local,
     Peer(u64),
 }
 
 // A submission, but for its lists of inputs and outputs.
-#[derive(Drop)]
+#[derive(Clone, Copy)]
 pub struct Submission {
     pub time: u64,
     pub id: Id,
@@ -86,14 +88,14 @@ pub struct Submission {
 
 // ---- outcomes. A refusal carries document 01's number; `specs/Outcomes.antt` gives number and values of every case.
 
-#[derive(Drop)]
+#[derive(Clone, Copy)]
 pub enum StartOutcome {
     // the state of an empty pool
     Ready(Mempool),
     NotStarted(u64),
 }
 
-#[derive(Drop)]
+#[derive(Clone, Copy)]
 pub enum ProcessingOutcome {
     Accepted,
     // so many ids were written: the conflicts, then the evicted
@@ -104,39 +106,39 @@ pub enum ProcessingOutcome {
     Declined(u64),
 }
 
-#[derive(Drop)]
+#[derive(Clone, Copy)]
 pub enum ReturnOutcome {
     Returned,
     NotReturned(u64),
 }
 
-#[derive(Drop)]
+#[derive(Clone, Copy)]
 pub enum BlockOutcome {
     // so many ids were written
     Removed(usize),
     NotApplied(u64),
 }
 
-#[derive(Drop)]
+#[derive(Clone, Copy)]
 pub enum InvalidateOutcome {
     Invalidated,
     NotInvalidated(u64),
 }
 
-#[derive(Drop)]
+#[derive(Clone, Copy)]
 pub enum OpenOutcome {
     Opened,
     NotOpened(u64),
 }
 
-#[derive(Drop)]
+#[derive(Clone, Copy)]
 pub enum NextOutcome {
     Candidate(Id),
     Ended(u64),
     NoPass(u64),
 }
 
-#[derive(Drop)]
+#[derive(Clone, Copy)]
 pub enum AnswerOutcome {
     InputMissing(Id),
     AnswerNeeded,
@@ -146,14 +148,14 @@ pub enum AnswerOutcome {
 }
 
 // A query that writes a list: so many entries, ids or pairs were written.
-#[derive(Drop)]
+#[derive(Clone, Copy)]
 pub enum ListOutcome {
     Listed(usize),
     NotListed(u64),
 }
 
 // A query for a yes or a no.
-#[derive(Drop)]
+#[derive(Clone, Copy)]
 pub enum TestOutcome {
     Yes,
     No,
@@ -161,7 +163,7 @@ pub enum TestOutcome {
 }
 
 // A query for a pooled transaction: its id, weight and base.
-#[derive(Drop)]
+#[derive(Clone, Copy)]
 pub enum EntryOutcome {
     Entry(Id, u64, u64),
     NoEntry,
@@ -169,7 +171,7 @@ pub enum EntryOutcome {
 }
 
 // A query for one number.
-#[derive(Drop)]
+#[derive(Clone, Copy)]
 pub enum NumberOutcome {
     Number(u64),
     NoNumber(u64),

@@ -1,5 +1,7 @@
 // poolrun: reads one bracket form a line, from standard input or from the file that its first argument names, and prints one answer a line
 // (docs/FORMS.md). What a line comes to is crate console's; here is the loop that cuts the input into lines.
+#![tactic(auto)]
+
 ghost use Rattle.std.specs.Prelude.{◌≡◌, ◌<◌, length, set};
 ghost use Rattle.console.specs.After.{Holds};
 ghost use Rattle.io.specs.Counts.{IsPrefixLen};
@@ -13,7 +15,7 @@ use lines::read::read_form;
 use words::sums::{saturating_add, smaller};
 
 // What goes from byte to byte: what is held of the pool, how much of a line was read, and how many lines there were.
-#[derive(Drop)]
+#[derive(Clone, Copy)]
 struct Progress {
     kept: Kept,
     len: usize,

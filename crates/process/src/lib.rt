@@ -1,4 +1,6 @@
 // A submission, whole: its tests, its verdict, the charge, and what follows a valid one. The store is lent, the state goes in and out by value.
+#![tactic(auto)]
+
 mod peer_words;
 mod submission;
 
@@ -24,7 +26,7 @@ use submission::{Due, seek, submit};
 const PEER_WORDS: usize = 512;
 
 // What the call hands back: the state, and what it answers.
-#[derive(Drop)]
+#[derive(Clone, Copy)]
 pub struct Processed {
     pub mempool: Mempool,
     pub outcome: ProcessingOutcome,
@@ -93,7 +95,7 @@ pub fn process(
 // ---- over flat words, for callers that hold the peer records so
 
 // What is handed back where the peer records go in and out by value.
-#[derive(Drop)]
+#[derive(Clone, Copy)]
 struct Handed {
     records: [PeerRecord; 256],
     processed: Processed,

@@ -21,14 +21,14 @@ use store::{fits_all, unfit};
 use words::sums::{saturating_add, smaller};
 
 // Which peer is to be looked for, among how many records.
-#[derive(Drop)]
+#[derive(Clone, Copy)]
 pub struct Sought {
     pub used: usize,
     pub peer: u64,
 }
 
 // What is due from a peer, which stands so among the records in use; or that nothing is.
-#[derive(Drop)]
+#[derive(Clone, Copy)]
 pub struct Due {
     pub owed: bool,
     pub used: usize,
@@ -38,14 +38,14 @@ pub struct Due {
 }
 
 // The sums after a charge, and what is due.
-#[derive(Drop)]
+#[derive(Clone, Copy)]
 struct Bill {
     sums: Sums,
     due: Due,
 }
 
 // What a submission comes to: the state as it will be once what is due was charged, and what it answers.
-#[derive(Drop)]
+#[derive(Clone, Copy)]
 pub struct Submitted {
     pub mempool: Mempool,
     pub outcome: ProcessingOutcome,

@@ -1,5 +1,7 @@
 // Submissions that no line of poolrun can make: each line has a case and what the call answers. The lines of `stdout` are worked out by hand
 // from document 01: "Order: 20, 1, 2, .. 7, 27, ..".
+#![tactic(auto)]
+
 use mempool::start;
 use pool_types::{
     Counts, FeeStrategy, Mempool, MempoolConfig, Pass, ProcessingOutcome, Source, StartOutcome,

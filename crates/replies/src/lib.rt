@@ -1,5 +1,7 @@
 // The lines that poolrun prints, into bytes that the caller lends, from their start and without the newline. Each function returns how many bytes
 // the line has; bytes past it keep their value.
+#![tactic(auto)]
+
 pub mod pieces;
 
 ghost use Rattle.std.specs.Prelude.{◌≡◌, ◌+◌, ◌*◌, ◌≤◌, length};

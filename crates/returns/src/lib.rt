@@ -1,5 +1,7 @@
 // A return and an invalidation: a transaction that a rolled back block gives back to the pool, and one that was found invalid. The store is
 // plain words that the caller lends, the state goes in and out by value.
+#![tactic(auto)]
+
 ghost use Rattle.std.specs.Prelude.{◌≡◌, true, false, ◌&&◌, List, ◌∷◌, ℕ, ◌+◌, ◌≤◌, max};
 ghost use Rattle.words.specs.Lists.{pick};
 ghost use Rattle.words.specs.Ids.{id_of};
@@ -37,7 +39,7 @@ const MAX_TX_SIZE: u64 = 98304;
 
 // A transaction that is given back, but for its lists of inputs and outputs. The fee is read for its weight; `source` is read by nobody, and stands
 // here because it is a field of the Rust's.
-#[derive(Drop)]
+#[derive(Clone, Copy)]
 pub struct UnconfirmedTx {
     pub id: Id,
     pub fee: u64,
@@ -50,13 +52,13 @@ pub struct UnconfirmedTx {
 }
 
 // What the calls hand back: the state, and what they answer.
-#[derive(Drop)]
+#[derive(Clone, Copy)]
 pub struct Returned {
     pub mempool: Mempool,
     pub outcome: ReturnOutcome,
 }
 
-#[derive(Drop)]
+#[derive(Clone, Copy)]
 pub struct Invalidated {
     pub mempool: Mempool,
     pub outcome: InvalidateOutcome,

@@ -1,5 +1,7 @@
 // The single spelling of forms (docs/FORMS.md): a readable line without the spaces, leading zeros and upper-case digits that it does not need. What
 // is readable is what poolrun reads: crate lines.
+#![tactic(auto)]
+
 ghost use Rattle.std.specs.Prelude.{◌≡◌, false, ◌+◌, ◌≤◌, ◌<◌, length, drop, get_or};
 ghost use Rattle.forms.specs.Text.{is_word};
 ghost use Rattle.forms.specs.Nums.{Prints};
@@ -86,7 +88,7 @@ fn put(out: &mut [u8], at: usize, owed: bool, c: u8) -> usize
 }
 
 // Where the next byte goes, whether a byte of a member was read last, and whether a space is owed to the next member.
-#[derive(Drop)]
+#[derive(Clone, Copy)]
 struct Place {
     at: usize,
     tight: bool,

@@ -1,4 +1,6 @@
 // Statistics over the transactions that blocks confirmed: a histogram of waits by minute and a window of throughput.
+#![tactic(auto)]
+
 ghost use Rattle.std.specs.Prelude.{◌≡◌, ◌-◌, ◌≤◌, ◌<◌, min, length};
 ghost use Rattle.words.specs.Sums.{quotient_of};
 ghost use Rattle.words.specs.Wide.{wide_of};
@@ -17,7 +19,7 @@ pub const HISTOGRAM_BINS: usize = 60;
 pub const MEASUREMENT_INTERVAL: u64 = 60000;
 
 #[repr(C)]
-#[derive(Drop)]
+#[derive(Clone, Copy)]
 pub struct FeeStats {
     // Transactions confirmed after a wait of each minute, and the sums of their base weights.
     pub counts: [u64; 60],
@@ -31,7 +33,7 @@ pub struct FeeStats {
 }
 
 // The fee that a wait asks for, or that no bin in its reach tells one.
-#[derive(Drop)]
+#[derive(Clone, Copy)]
 pub enum FeeForWait {
     Fee(u64),
     NoBin,

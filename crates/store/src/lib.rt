@@ -1,5 +1,7 @@
 // The lent store as every changing call finds it: whether the counts of the state fit what is lent. That is all that safety needs, since no word of
 // a table is used as an index.
+#![tactic(auto)]
+
 ghost use Rattle.std.specs.Prelude.{◌≡◌, false, ◌+◌, ◌<◌};
 ghost use Rattle.words.specs.Lists.{pick};
 ghost use Rattle.arguments.specs.Arguments.{records};

@@ -1,5 +1,7 @@
 // tidy: reads poolrun's forms, from standard input or from the file that its first argument names, and writes each in its single spelling; unreadable lines
 // and line ends are copied (docs/FORMS.md). How a line comes out is crate spelling's; here is the loop that cuts the input into lines.
+#![tactic(auto)]
+
 ghost use Rattle.std.specs.Prelude.{◌≡◌, ◌≤◌, ◌<◌, length};
 ghost use Rattle.io.specs.Counts.{IsPrefixLen};
 ghost use Rattle.tidy.specs.Input.{state_of, at_start, Ending};
@@ -10,7 +12,7 @@ use spelling::tidy_line;
 use words::sums::smaller;
 
 // What goes from byte to byte: how much of a line is held, whether some of it was written already, and whether the input has ended.
-#[derive(Drop)]
+#[derive(Clone, Copy)]
 struct Progress {
     len: usize,
     long: bool,

@@ -1,4 +1,6 @@
 // The base weight of a transaction.
+#![tactic(auto)]
+
 ghost use Rattle.std.specs.Prelude.{◌≡◌};
 ghost use Rattle.weight.specs.Weight.{factor_of, fee_per_factor};
 

@@ -4,7 +4,7 @@ ghost use Rattle.std.specs.Prelude.{◌≡◌, ◌+◌, ◌≤◌, [], ◌∷◌
 ghost use Rattle.words.specs.Ids.{id_of, id_at, words_at, Four, id_words};
 ghost use Rattle.words.specs.Rows.{stored};
 
-#[derive(Drop)]
+#[derive(Clone, Copy)]
 pub struct Id {
     pub a: u64,
     pub b: u64,

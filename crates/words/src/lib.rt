@@ -1,4 +1,6 @@
 // Numbers: ids of 32 bytes, sums that stop, products and quotients of two words.
+#![tactic(auto)]
+
 pub mod buckets;
 pub mod ids;
 pub mod sums;

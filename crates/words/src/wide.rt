@@ -7,7 +7,7 @@ ghost use Rattle.words.specs.Divide.{Length, Serves, Ready, part_of, stepped};
 // Half a word has 32 bits.
 const HALF: u64 = 0x1_0000_0000;
 
-#[derive(Drop)]
+#[derive(Clone, Copy)]
 pub struct Wide {
     pub high: u64,
     pub low: u64,
@@ -51,7 +51,7 @@ pub fn add_word(w: Wide, x: u64) -> Wide
 // ---- the quotient of two words by one
 
 // What a division has come to: the quotient of the bits so far, and what is left of them.
-#[derive(Drop)]
+#[derive(Clone, Copy)]
 struct Part {
     quotient: u64,
     rest: u64,
