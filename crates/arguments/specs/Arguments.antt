@@ -1,5 +1,5 @@
 -- The lists that calls bring: flat words, records of W words each (docs/DECISIONS.md, D3 and D4).
-use Rattle.std.specs.Prelude.{ℕ, zero, suc, ◌+◌, ◌*◌, ◌/◌, ◌%◌, ◌^◌, max, ◌≡◌, refl, Bool, true, false, not, List, [], ◌∷◌, length, get_or, eqb, ltb}
+use Rattle.std.specs.Prelude.{ℕ, zero, suc, ◌+◌, ◌*◌, ◌/◌, ◌%◌, max, ◌≡◌, refl, Bool, true, false, not, List, [], ◌∷◌, length, get_or, eqb, ltb}
 use Rattle.words.specs.Lists.{pick}
 use Rattle.words.specs.Sums.{cap}
 use Rattle.arguments.specs.declared.FeeSum.{FeeSum}

@@ -1,7 +1,7 @@
 -- An output ahead in height, in document 01's words: refusal 8, "an output's height above the preheader", and "Heights of 32 bits are read as
 -- signed". The contracts compare sums with 2^31 (`biased`, `ahead_of`); here they are shown to say that.
 use Rattle.std.specs.Prelude.{ℕ, zero, suc, ◌+◌, ◌-◌, ◌%◌, ◌^◌, ◌≤◌, ◌<◌, max, ◌≡◌, refl, Bool, true, false, List, T, ltb, ℤ, pos, negsuc, ◌<ℤ◌}
-use Rattle.std.proofs.Common.{sym, ap, ◌∙◌, arith}
+use Rattle.std.proofs.Common.{sym, ◌∙◌, arith}
 use Rattle.std.proofs.Math.Decide.{dec_le}
 use Rattle.std.specs.Int.Signed.{lt_z, lt_z_yes}
 use borrow.Author.Tests.{ltb-true, ltb-false, lt-ltb, le-ltb}

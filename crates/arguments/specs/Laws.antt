@@ -1,9 +1,8 @@
 -- Loops over the records of a list: what is folded and what is left are the whole.
-use Rattle.std.specs.Prelude.{ℕ, zero, suc, ◌+◌, ◌-◌, ◌*◌, ◌≤◌, ◌<◌, ◌/◌, max, min, ◌≡◌, refl, Bool, false, ◌&&◌, List, length, eqb}
+use Rattle.std.specs.Prelude.{ℕ, suc, ◌+◌, ◌-◌, ◌*◌, ◌≤◌, ◌<◌, max, ◌≡◌, refl, Bool, false, ◌&&◌, List, length, eqb}
 use Rattle.std.proofs.Common.{sym, ap, ◌∙◌, suc-mul, mul-le-mul_right, div-mul-le_self, div-le_self, add-one, arith, lt-ltb, le-ltb, eq-eqb, ne_eqb}
 use Rattle.words.specs.Sums.{cap, capped}
 use Rattle.arguments.specs.Arguments.{fee_at, fee_from, fee_of, fee_sum, field, biased, high_from, height_key, total_from, counts_agree, records}
-use Rattle.arguments.specs.declared.FeeSum.{FeeSum}
 use Rattle.arguments.specs.declared.FeeSum.TheVariants.{Sum, Beyond}
 
 -- of two lists the first is not whole

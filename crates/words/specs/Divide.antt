@@ -3,7 +3,7 @@
 use Rattle.std.specs.Prelude.{◌≡◌, ℕ, ◌+◌, ◌-◌, ◌*◌, ◌/◌, ◌%◌, ◌^◌, ◌<◌, ◌≤◌, min}
 use Rattle.std.proofs.Common.{sym, ◌∙◌, add_assoc, add-mul, mul_right_comm, div-add-mod', div-one, mod-eq_of_lt, div-mul-le_self, le-div_iff_mul-le, div-lt_iff_lt-mul, le_trans, lt_of_lt_of_le, lt_of_le_of_lt, mul-le-mul_left, le-add_right, arith, pow_pos, pow_mono, shr-shr}
 use Rattle.std.proofs.Math.Path.{ap}
-use Rattle.std.proofs.Math.Nat.{mul-add-div_right, mul-add-mod_self_right, mod-lt, zero-div, zero-mod, div-eq_of_lt, div-eq-sub-div, mod-eq-sub-mod}
+use Rattle.std.proofs.Math.Nat.{mul-add-div_right, mul-add-mod_self_right, mod-lt, div-eq_of_lt, div-eq-sub-div, mod-eq-sub-mod}
 use Rattle.std.proofs.Math.Arith.{digits_lt}
 use Rattle.std.proofs.Math.Pow.{split, shr_mod}
 use Rattle.std.proofs.lemmas.Nat.{shr_le}

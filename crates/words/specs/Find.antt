@@ -1,7 +1,7 @@
 -- Finding, taking out and the last, for lists of any rows: what is read of a row is its id. A view of the rows that keeps the ids may be
 -- taken before or after.
-use Rattle.std.specs.Prelude.{◌≡◌, ℕ, zero, suc, Bool, true, false, not, List, [], ◌∷◌, ◌++◌, map, ◌==◌, refl}
-use Rattle.std.proofs.Common.{sym, ap, ◌∙◌}
+use Rattle.std.specs.Prelude.{◌≡◌, ℕ, Bool, true, false, List, [], ◌∷◌, map, ◌==◌, refl}
+use Rattle.std.proofs.Common.{ap, ◌∙◌}
 use Rattle.words.specs.Lists.{pick}
 
 module _ {A : Type 0} where

@@ -2,9 +2,8 @@
 -- does. Such a loop moves a hole: the list without the element at the hole is the same before and after each turn.
 use Rattle.std.specs.Prelude.{◌≡◌, ℕ, zero, suc, ◌+◌, ◌<◌, ◌≤◌, Bool, true, false, not, List, [], ◌∷◌, ◌++◌, map, length, take, ◌==◌, slice_index_or, slice_set}
 use Rattle.std.proofs.Math.Path.{refl, ap}
-use Rattle.std.proofs.Common.{sym, ◌∙◌, append_assoc, not-suc-le-zero, le_of_suc-le-suc, suc-ne-zero, arith, eqb-true, eq-eqb, ne_eqb}
+use Rattle.std.proofs.Common.{sym, ◌∙◌, append_assoc, not-suc-le-zero, le_of_suc-le-suc, suc-ne-zero, arith, eqb-true, eq-eqb}
 use Rattle.std.proofs.Math.Nat.{suc_inj}
-use Rattle.std.proofs.lemmas.Bool.{eqb-false}
 
 -- one of two values, by a test
 abbrev pub pick : {A : Type 0} → Bool → A → A → A

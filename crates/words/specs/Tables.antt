@@ -1,7 +1,7 @@
 -- What is known of any table: `of l n` is the list of its first n records in the words l, and `at l i` the record at index i. A table's
 -- module proves a `Table of at`, three laws, and the laws below then serve its loops; none of them knows a width or a word.
-use Rattle.std.specs.Prelude.{◌≡◌, ℕ, zero, suc, ◌+◌, ◌<◌, ◌≤◌, Bool, true, false, List, [], ◌∷◌, ◌++◌, length, take, drop, slice_index_or, slice_set, refl}
-use Rattle.std.proofs.Common.{sym, ap, ◌∙◌, add-one, arith, drop_of_length-le, length-set, drop-cons, take_all, take-suc, take-suc-set, drop-set-lt}
+use Rattle.std.specs.Prelude.{◌≡◌, ℕ, suc, ◌+◌, ◌<◌, ◌≤◌, Bool, true, false, List, [], ◌∷◌, ◌++◌, length, take, drop, slice_index_or, slice_set, refl}
+use Rattle.std.proofs.Common.{sym, ◌∙◌, add-one, arith, drop_of_length-le, length-set, drop-cons, take_all, take-suc, take-suc-set, drop-set-lt}
 use Rattle.words.specs.Lists.{pick, remove_at, insert_at, keep, keep_snoc, hole-last, hole-up, hole-down, hole-fill}
 
 pub record Table {A : Type 0} (of : List ℕ → ℕ → List A) (at : List ℕ → ℕ → A) : Type 0 where

@@ -1,0 +1,11 @@
+-- `wide::quotient` meets its contract: the high word says whether the quotient fits a word (`past_word_is`, `fits_word`). Assumes nothing.
+use Rattle.std.proofs.Common.{arith}
+use Rattle.words.specs.Sums.{quotient-cap}
+use Rattle.words.specs.Wide.{wide_of}
+use Rattle.words.specs.Divide.{past_word_is}
+use Rattle.words.proofs.wide.quotient.Goals as goal
+
+pub returns-then-d-w : goal.returns-then-d-w
+returns-then-d-w c =
+    let a = c.args in
+    quotient-cap (wide_of a.w) a.d (omega (arith, c.if-d-eq0.false)) (past_word_is a.w (omega (arith, c.if-d-eq0.false)) c.if-d-w.true)
