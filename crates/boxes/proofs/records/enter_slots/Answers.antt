@@ -1,0 +1,11 @@
+-- `records::enter_slots` meets its contract. The loop's invariant: i records have entered, and those behind them are as they were (`Enters`). Assumes nothing.
+use native.Mathlib.Omega.{arith}
+use Prim.Native.Nat.{◌-◌}
+use Rattle.boxes.specs.Linking.{enters_none, enters-more}
+use Rattle.boxes.proofs.records.enter_slots.Goals as goal
+
+pub loop-i-init : goal.loop-i-init
+loop-i-init c = (omega arith, enters_none _ _)
+
+pub loop-i-preserved : goal.loop-i-preserved
+loop-i-preserved c = (omega arith, enters-more _ _ _ _ _ c.loop-i.invariant.1 (omega arith) c.enter_slot.auto.s c.enter_slot.ensures)

@@ -1,0 +1,8 @@
+-- `records::write_behind` meets its contract: what the writer leaves in the part that is lent stands behind the used slots (`wrote-lent`). Assumes nothing.
+use native.Mathlib.Omega.{arith}
+use Rattle.words.specs.Ids.{id_of}
+use Rattle.boxes.specs.Writing.{wrote-lent}
+use Rattle.boxes.proofs.records.write_behind.Goals as goal
+
+pub returns : goal.returns
+returns c = wrote-lent c.args.s.now c.write_records.new.free c.args.used (id_of c.args.owner) c.args.in-width c.args.inputs.now c.args.out-width c.args.outputs.now (omega (arith, c.requires.0)) c.write_records.ensures

@@ -1,0 +1,13 @@
+-- `records::write_list` meets its contract. The loop's invariant: i boxes are written, and the other words are as they were (`Wrote`). Assumes nothing.
+use native.Mathlib.Omega.{arith}
+use Prim.Native.Nat.{◌-◌}
+use mathlib.Core.Path.{◌≡◌}
+use Rattle.boxes.specs.Flat.{count_of}
+use Rattle.boxes.specs.Writing.{wrote-more}
+use Rattle.boxes.proofs.records.write_list.Goals as goal
+
+pub loop-i-preserved : goal.loop-i-preserved
+loop-i-preserved c = (omega arith, omega arith, wrote-more _ _ _ _ _ _ _ _ _ _ _ c.loop-i.invariant.2 c.id_at-key.ensures c.live_kind.ensures c.put_words.ensures)
+
+pub returns : goal.returns
+returns c = let e : c.loop-i.i ≡ count_of c.args.width c.args.list.now = omega arith in rw e at c.loop-i.invariant.2

@@ -1,0 +1,9 @@
+use Prim.Native.Nat.{◌-◌}
+use Rattle.entries.specs.Index.{Cuts}
+use Rattle.entries.proofs.chain.cut_at.Given as goal
+
+abbrev pub invariant-loop-below : goal.invariant-loop-below
+invariant-loop-below l = Cuts l.s l.u l.b l.i l.above l.below
+
+abbrev pub decreases-loop-below : goal.decreases-loop-below
+decreases-loop-below l = l.below

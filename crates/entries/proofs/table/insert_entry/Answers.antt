@@ -1,0 +1,19 @@
+-- `table::insert_entry` meets its contract: a free slot is filled and takes its place (`inserted`). Assumes nothing.
+use native.Mathlib.Omega.{arith}
+use Rattle.entries.specs.Layout.{EntriesOk, entry_of}
+use Rattle.entries.specs.Changing.{inserted}
+use Rattle.entries.proofs.table.insert_entry.Goals as goal
+
+pub known-u-requires : goal.known-u-requires
+unfolding EntriesOk
+known-u-requires c = omega arith
+
+pub free_slot-t-requires : goal.free_slot-t-requires
+unfolding EntriesOk
+free_slot-t-requires c = omega (arith, c.known-u.ensures, c.requires)
+
+pub returns : goal.returns
+unfolding entry_of
+returns c =
+    let a = c.args in
+    inserted a.s.now _ _ _ _ a.n _ (entry_of a.e) c.known-u.ensures.0 c.free_slot-t.ensures c.free_slot-t.auto.s c.fill.auto.0 c.settle.auto.0 c.fill.ensures c.settle.ensures
