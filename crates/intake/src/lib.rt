@@ -1,5 +1,6 @@
 // A queue above the pool: a line of 16 handles for each of 256 peers, served in turn, so that a peer that fills its line delays no other.
-// The queue lies in lent words. `lines` alone knows the layout; `calls` are start, put and turn; here they stand for C and Rust.
+// The queue lies in lent words. `lines` alone knows the layout; `calls` are start, put and turn; here they stand as C and Rust call them, and crate
+// intake_c exports them.
 //
 // A slice is a pointer and a length (in words), two arguments in this order. Nothing is required of the caller but that each slice lies in
 // memory of its own; on words and lengths of any kind a call is safe, and answers.
@@ -21,8 +22,7 @@ ghost use Rattle.intake.specs.Exports.{ToldStart, ToldPut, ToldTurn};
 use crate::calls::{PutOutcome, StartOutcome, TurnOutcome, put, start, turn};
 
 // Makes the queue empty.
-#[unsafe(no_mangle)]
-pub extern "C" fn gunthyd_intake_start(queue: &mut [u64]) -> u64
+pub fn gunthyd_intake_start(queue: &mut [u64]) -> u64
     ensures { ToldStart queue.old queue.new result }
 {
     let said = start(queue);
@@ -33,8 +33,7 @@ pub extern "C" fn gunthyd_intake_start(queue: &mut [u64]) -> u64
 }
 
 // Stores a handle at the end of a line.
-#[unsafe(no_mangle)]
-pub extern "C" fn gunthyd_intake_put(queue: &mut [u64], line: u64, handle: u64) -> u64
+pub fn gunthyd_intake_put(queue: &mut [u64], line: u64, handle: u64) -> u64
     ensures { ToldPut queue.old line handle queue.new result }
 {
     let said = put(queue, line, handle);
@@ -45,8 +44,7 @@ pub extern "C" fn gunthyd_intake_put(queue: &mut [u64], line: u64, handle: u64) 
 }
 
 // Hands out the oldest handle of the next line in circular order after the one served last, with its line.
-#[unsafe(no_mangle)]
-pub extern "C" fn gunthyd_intake_turn(queue: &mut [u64], answer: &mut [u64]) -> u64
+pub fn gunthyd_intake_turn(queue: &mut [u64], answer: &mut [u64]) -> u64
     ensures { ToldTurn queue.old queue.new answer.old answer.new result }
 {
     if answer.len() < 2 {
