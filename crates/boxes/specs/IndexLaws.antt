@@ -1,6 +1,6 @@
 -- What entering and leaving do to the indexes and to what is read of the records: the pool's rule on an index as a list of pairs (`enter_pair`,
 -- `drop_pairs`), one live record for each kind and box (`OneLive`), each transaction's inputs and outputs in order (`uses`, `inputs_of`).
-use Rattle.std.specs.Prelude.{ℕ, ◌+◌, ◌≡◌, refl, Bool, true, false, not, ◌&&◌, List, [], ◌∷◌, ◌++◌, map, eqb}
+use Rattle.std.specs.Prelude.{ℕ, ◌≡◌, refl, Bool, true, false, not, ◌&&◌, List, [], ◌∷◌, ◌++◌, map, eqb}
 use Rattle.std.proofs.Common.{sym, ap, ◌∙◌, append_assoc, append-nil, arith, eq-eqb, eqb-true}
 use Rattle.std.proofs.lemmas.Bool.{eqb-false}
 use Rattle.words.specs.Lists.{pick, keep, other, count, Once, keep-map, map-append, count-map-keep, once_last, absent-head, absent-tail}

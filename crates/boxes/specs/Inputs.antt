@@ -3,7 +3,7 @@ use Rattle.std.specs.Prelude.{ℕ, zero, suc, ◌+◌, ◌≤◌, ◌<◌, min, 
 use Rattle.std.proofs.Common.{sym, ap, ◌∙◌, append-nil, add-one, arith}
 use Rattle.std.proofs.Math.Decide.{dec_le}
 use Rattle.words.specs.Tables.{of_none, of-suc}
-use Rattle.boxes.specs.Records.{BoxRec, is_input, inputs_of}
+use Rattle.boxes.specs.Records.{is_input, inputs_of}
 use Rattle.boxes.specs.IndexLaws.{inputs-split}
 use Rattle.boxes.specs.Layout.{box_at, rows_of, rows, slots_used}
 use Rattle.boxes.specs.Searching.{InputAt, LastInput}

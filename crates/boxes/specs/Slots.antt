@@ -1,6 +1,6 @@
 -- Slots: the places that box records have in memory. A transaction that leaves vacates its slots, and a vacated one is used again when the
 -- records are moved together. The records are those of the slots that are not vacated, in order (`tidy`).
-use Rattle.std.specs.Prelude.{ℕ, zero, suc, ◌+◌, ◌≤◌, ◌<◌, ◌≡◌, refl, Bool, true, false, ◌&&◌, List, [], ◌∷◌, ◌++◌, map, eqb, length}
+use Rattle.std.specs.Prelude.{ℕ, zero, suc, ◌≤◌, ◌<◌, ◌≡◌, refl, Bool, true, false, ◌&&◌, List, [], ◌∷◌, ◌++◌, map, eqb, length}
 use Rattle.std.proofs.Common.{suc-le-suc, ap, not-suc-le-zero, le_of_suc-le-suc, arith}
 use Rattle.std.proofs.Math.Bool.{and-false}
 use Rattle.words.specs.Lists.{pick}

@@ -1,4 +1,3 @@
-use Prim.Native.Nat.{◌-◌}
 use Rattle.boxes.specs.Searching.{Keeps}
 use Rattle.boxes.proofs.links.find_live.Given as goal
 

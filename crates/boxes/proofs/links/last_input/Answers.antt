@@ -10,7 +10,7 @@ use Rattle.boxes.specs.Searching.{lasts-empty, lasts-next, lasts-hit, link-less}
 use Rattle.boxes.proofs.links.last_input.Goals as goal
 
 pub returns-then-n-eq0 : goal.returns-then-n-eq0
-returns-then-n-eq0 c = (let all = lasts-empty c.args.s.now c.args.n (id_of c.args.owner) c.args.below c.if-n-eq0.true in (all.0, all.1))
+returns-then-n-eq0 c = (let all = lasts-empty c.args.s.now c.args.n (id_of c.args.owner) c.args.below c.if-n-eq0.true in record { input_at = all.0; last_input = all.1 })
 
 pub first_below-v-requires : goal.first_below-v-requires
 first_below-v-requires c = (omega (arith, c.slots_used-used.ensures, slots-high c.args.s.now c.args.n, c.if-n-eq0.false), omega (arith, c.slots_used-used.ensures, slots-low c.args.s.now c.args.n c.requires))
@@ -19,7 +19,7 @@ pub is_input_below-requires : goal.is_input_below-requires
 is_input_below-requires c = omega (arith, c.loop-v.invariant.low, c.loop-v-test.true, c.slots_used-used.ensures, slots-low c.args.s.now c.args.n c.requires)
 
 pub returns-then-is_input_below : goal.returns-then-is_input_below
-returns-then-is_input_below c = (let all = lasts-hit c.args.s.now c.args.n _ c.args.owner c.args.below c.loop-v.v c.slots_used-used.ensures c.requires c.loop-v.invariant (c.loop-v.v - 1) (omega (arith, c.loop-v-test.true)) (sym c.is_input_below.ensures ∙ c.if-is_input_below.true) in (all.0, all.1))
+returns-then-is_input_below c = (let all = lasts-hit c.args.s.now c.args.n _ c.args.owner c.args.below c.loop-v.v c.slots_used-used.ensures c.requires c.loop-v.invariant (c.loop-v.v - 1) (omega (arith, c.loop-v-test.true)) (sym c.is_input_below.ensures ∙ c.if-is_input_below.true) in record { input_at = all.0; last_input = all.1 })
 
 pub link-v-requires : goal.link-v-requires
 link-v-requires c = omega (arith, c.loop-v.invariant.low, c.loop-v-test.true, c.slots_used-used.ensures, slots-low c.args.s.now c.args.n c.requires)

@@ -1,4 +1,3 @@
-use Prim.Native.Nat.{◌-◌}
 use Rattle.boxes.specs.Searching.{Lasts}
 use Rattle.boxes.proofs.links.last_input.Given as goal
 

@@ -1,5 +1,4 @@
 -- `lists::among` meets its contract. The loop's invariant: the ids from record i on say the same as those from `from` on. Assumes nothing.
-use Prim.Native.Nat.{◌-◌}
 use mathlib.Core.Path.{sym, ◌∙◌}
 use Rattle.boxes.specs.Flat.{among-hit, among-miss, among-end}
 use Rattle.boxes.proofs.lists.among.Goals as goal

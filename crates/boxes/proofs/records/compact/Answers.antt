@@ -1,7 +1,6 @@
 -- `records::compact` meets its contract. The loop's invariant: the records of the first r slots are in the first w, and both indexes are right for them
 -- (`Moves`). Assumes nothing.
 use native.Mathlib.Omega.{arith}
-use Prim.Native.Nat.{◌-◌}
 use mathlib.Core.Path.{sym, ◌∙◌}
 use Rattle.boxes.specs.Compacting.{moves-none, moves-gone, moves-kept}
 use Rattle.boxes.proofs.records.compact.Goals as goal

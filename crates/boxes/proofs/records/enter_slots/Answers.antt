@@ -1,6 +1,5 @@
 -- `records::enter_slots` meets its contract. The loop's invariant: i records have entered, and those behind them are as they were (`Enters`). Assumes nothing.
 use native.Mathlib.Omega.{arith}
-use Prim.Native.Nat.{◌-◌}
 use Rattle.boxes.specs.Linking.{enters_none, enters-more}
 use Rattle.boxes.proofs.records.enter_slots.Goals as goal
 

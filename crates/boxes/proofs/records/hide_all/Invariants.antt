@@ -1,4 +1,3 @@
-use Prim.Native.Nat.{◌-◌}
 use Rattle.boxes.specs.Hiding.{Hides}
 use Rattle.boxes.proofs.records.hide_all.Given as goal
 

@@ -1,4 +1,3 @@
-use Prim.Native.Nat.{◌-◌}
 use Rattle.boxes.specs.Leaving.{Leaves}
 use Rattle.boxes.proofs.records.leave_all.Given as goal
 

@@ -1,6 +1,5 @@
 -- `records::write_list` meets its contract. The loop's invariant: i boxes are written, and the other words are as they were (`Wrote`). Assumes nothing.
 use native.Mathlib.Omega.{arith}
-use Prim.Native.Nat.{◌-◌}
 use mathlib.Core.Path.{◌≡◌}
 use Rattle.boxes.specs.Flat.{count_of}
 use Rattle.boxes.specs.Writing.{wrote-more}
