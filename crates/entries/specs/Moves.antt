@@ -1,7 +1,7 @@
 -- What the calls do to rows in order, each id once: taking out what is found keeps all others, losing the last keeps all but its id, and putting
 -- back what was changed sorts anew. Credits and their cap.
 use Rattle.std.specs.Prelude.{ℕ, ◌+◌, ◌≤◌, ◌≡◌, refl, Bool, true, false, not, List, [], ◌∷◌, map, eqb}
-use Rattle.std.proofs.Common.{sym, ap, ◌∙◌, arith, eq-eqb, ne_eqb, eqb-true}
+use Rattle.std.proofs.Common.{sym, ap, subst, ◌∙◌, arith, eq-eqb, ne_eqb, eqb-true}
 use Rattle.std.proofs.lemmas.Bool.{eqb-false}
 use Rattle.words.specs.Lists.{pick, keep, other, count, Once, once-head, once-tail, absent-head, absent-tail}
 use Rattle.words.specs.Find.{without, found, last, but_last, put_back}
@@ -44,7 +44,7 @@ module _ {A : Type 0} (k : A → ℕ) where
       rw (ne_eqb (k x) (k (last y ys)) (λ e. ne e)) (ap (λ (z : List A). x ∷ z) (last_rest y ys (once-tail (k x) (map k (y ∷ ys)) h)))
     where
       ne : k x ≡ k (last y ys) → ⊥
-      ne e = let z : count (k (last y ys)) (map k (y ∷ ys)) ≡ 0 = rw e at (once-head (k x) (map k (y ∷ ys)) h) in omega (arith, last-there y ys)
+      ne e = let z : count (k (last y ys)) (map k (y ∷ ys)) ≡ 0 = subst (λ z. count z (map k (y ∷ ys)) ≡ 0) e (once-head (k x) (map k (y ∷ ys)) h) in omega (arith, last-there y ys)
 
   changed-none : (f : A → A) (j : ℕ) (xs : List A) → count j (map k xs) ≡ 0 → map (changed f j) xs ≡ xs
   changed-none f j [] h = refl

@@ -1,6 +1,6 @@
 -- What the place of an id says of the entries: which entry it is, what is left without it, and what a credit or a stamp makes of them.
 use Rattle.std.specs.Prelude.{ℕ, suc, ◌+◌, ◌<◌, ◌≡◌, refl, Bool, true, false, List, [], ◌∷◌, length, get_or, set, eqb}
-use Rattle.std.proofs.Common.{suc-le-suc, ap, ◌∙◌, arith, eqb-true}
+use Rattle.std.proofs.Common.{suc-le-suc, ap, arith, eqb-true}
 use Rattle.words.specs.Lists.{pick, remove_at}
 use Rattle.words.specs.Find.{found, without}
 use Rattle.entries.specs.Entries.{Entry, insert_by, pooled, place_from, place_of, raised, credit, stamp, stamped}

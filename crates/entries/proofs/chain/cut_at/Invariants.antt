@@ -1,4 +1,3 @@
-use Prim.Native.Nat.{◌-◌}
 use Rattle.entries.specs.Index.{Cuts}
 use Rattle.entries.proofs.chain.cut_at.Given as goal
 

@@ -1,4 +1,3 @@
-use Prim.Native.Nat.{◌-◌}
 use Rattle.entries.specs.Index.{Seeks}
 use Rattle.entries.proofs.chain.find_slot.Given as goal
 

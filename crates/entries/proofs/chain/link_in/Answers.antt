@@ -7,4 +7,4 @@ use Rattle.entries.proofs.chain.link_in.Goals as goal
 pub returns : goal.returns
 returns c =
     let a = c.args in
-    linked-in a.s.now _ _ _ a.u _ a.i _ _ _ _ c.requires.0 c.requires.1 (c.Home-of.ensures.0 ∙ ap (home_of a.s.now) c.get.ensures) c.cut_at-c.ensures refl refl c.put.ensures c.mend.ensures c.put-2.ensures
+    linked-in a.s.now _ _ _ a.u _ a.i _ _ _ _ c.requires.0 c.requires.1 (c.home_of-b.ensures.0 ∙ ap (home_of a.s.now) c.get.ensures) c.cut_at-c.ensures refl refl c.put.ensures c.mend.ensures c.put-2.ensures

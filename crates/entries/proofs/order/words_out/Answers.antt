@@ -1,5 +1,4 @@
 -- `order::words_out` meets its contract. The loop's invariant: the words before i have moved forward by one. Assumes nothing.
-use Prim.Native.Nat.{◌-◌}
 use mathlib.Core.Path.{refl}
 use native.Mathlib.Omega.{arith}
 use Rattle.entries.specs.Turning.{out_none, out-more, out-all}

@@ -16,4 +16,4 @@ pub returns : goal.returns
 unfolding entry_of
 returns c =
     let a = c.args in
-    inserted a.s.now _ _ _ _ a.n _ (entry_of a.e) c.known-u.ensures.0 c.free_slot-t.ensures c.free_slot-t.auto.s c.fill.auto.0 c.settle.auto.0 c.fill.ensures c.settle.ensures
+    inserted a.s.now _ _ _ _ a.n _ (entry_of a.e) c.known-u.ensures.0 c.free_slot-t.ensures c.free_slot-t.auto.s c.fill.auto.s c.settle.auto.s c.fill.ensures c.settle.ensures

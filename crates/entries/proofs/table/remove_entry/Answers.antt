@@ -14,7 +14,7 @@ known-u-requires c = c.requires
 pub returns-in-At-clause-left : goal.returns-in-At-clause-left
 unfolding EntriesOk
 returns-in-At-clause-left c = let a = c.args in
-    let low = c.find_rank.ensures.low _ c.in-At.is in removed-at a.s.now _ a.n (id_of a.id) c.known-u.ensures.0 c.requires _ _ (a.n - 1) _ (omega (arith, low)) c.turn_out.auto.s c.clear.auto.0 (rw c.in-At.is at c.find_rank.ensures)
+    let low = c.find_rank.ensures.low _ c.in-At.is in removed-at a.s.now _ a.n (id_of a.id) c.known-u.ensures.0 c.requires _ _ (a.n - 1) _ (omega (arith, low)) c.turn_out.auto.s c.clear.auto.s (rw c.in-At.is at c.find_rank.ensures)
     (taken a.s.now _ (a.n - 1) _ (omega (arith, low)) c.turn_out.ensures (omega (arith, low, c.requires)))
     c.clear.ensures
 

@@ -13,4 +13,4 @@ pub returns : goal.returns
 unfolding EntriesOk
 returns c =
     let a = c.args in
-    lowest-out a.s.now _ a.n 0 c.known-u.ensures.0 c.requires.entries_ok _ (a.n - 1) (omega (arith, c.requires.n_nonzero)) c.clear.auto.0 c.clear.ensures
+    lowest-out a.s.now _ a.n 0 c.known-u.ensures.0 c.requires.entries_ok _ (a.n - 1) (omega (arith, c.requires.n_nonzero)) c.clear.auto.s c.clear.ensures
