@@ -1,9 +1,9 @@
 -- Laws of numbers in text: what the readers and printers do, and that reading what was printed gives it back (`number-back`, `id-back`).
 use Rattle.std.specs.Prelude.{ℕ, zero, suc, ◌+◌, ◌-◌, ◌*◌, ◌/◌, ◌%◌, ◌^◌, ◌<◌, ◌≤◌, ◌≡◌, Bool, length, get_or, take, drop, set, ltb}
 use Rattle.std.proofs.Math.Path.{refl, sym, ap, ap₂, subst}
-use Rattle.std.proofs.Common.{◌∙◌, add-one, mod-eq_of_lt, mul-le-mul_right, mul-le-mul_left, le_trans, le-div_iff_mul-le, div-lt_iff_lt-mul, div-add-mod', mod-lt, pow-suc, mul_assoc, mul_comm, add-mul, mul-add, one-mul, lt_of_lt_of_le, length-drop, length-append, length-take, take-append-drop, drop_of_length-le, drop-cons, drop-drop, take-add, take-take, length-take-le, drop_at, take_at, leb-true, le-leb, lt-ltb, le-ltb, ltb-true, ltb-false}
+use Rattle.std.proofs.Common.{◌∙◌, add-one, mod-eq_of_lt, mul-le-mul_right, mul-le-mul_left, le-div_iff_mul-le, div-lt_iff_lt-mul, div-add-mod', mod-lt, pow-suc, mul_assoc, add-mul, one-mul, length-drop, length-append, take-append-drop, drop-cons, drop-drop, take-add, take-take, length-take-le, drop_at, take_at, leb-true, le-leb, lt-ltb, le-ltb, ltb-true, ltb-false}
 use Rattle.std.proofs.Math.Bool.{true, false}
-use mathlib.Core.List.{List, [], ◌∷◌, ◌++◌, append_assoc, append-nil}
+use mathlib.Core.List.{List, [], ◌∷◌, ◌++◌, append_assoc}
 use native.Mathlib.Omega.{arith}
 use Rattle.std.proofs.Math.Nat.{mul-add-div_right, mul-add-mod_self_right, div-eq_of_lt, pow-zero, pow-succ', pow-le-pow_right}
 use Rattle.std.proofs.lemmas.List.{set_at, set_split}
@@ -14,7 +14,6 @@ use Rattle.words.specs.Ids.{Words}
 use Rattle.words.specs.declared.ids.Id.{Id}
 use Rattle.forms.specs.Text.{within, part}
 use Rattle.forms.specs.TextLaws.{true-false, by_bool}
-use Rattle.forms.specs.declared.nums.IdRead.{IdRead}
 use Rattle.forms.specs.declared.nums.IdRead.TheVariants.{Of, NoId}
 use Rattle.forms.specs.declared.nums.Number.{Number}
 use Rattle.forms.specs.declared.nums.Number.TheVariants.{Value, NoNumber}

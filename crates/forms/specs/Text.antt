@@ -1,6 +1,6 @@
 -- Readable lines. Document 01: "one bracket form a line (at most 4,096 bytes; a list holds words and further lists, at most 8 deep, the form itself
 -- counted)"; "Members are parted by at least one space; more may stand outside words." What a line says, its members, stands apart from its spelling.
-use Rattle.std.specs.Prelude.{ℕ, zero, suc, ◌+◌, ◌-◌, ◌<◌, ◌≤◌, ◌≡◌, refl, Bool, true, false, List, [], ◌∷◌, ◌++◌, length, replicate, get_or, take, drop, leb, eqb}
+use Rattle.std.specs.Prelude.{ℕ, suc, ◌-◌, ◌<◌, ◌≤◌, ◌≡◌, refl, Bool, true, false, List, [], ◌∷◌, ◌++◌, length, replicate, get_or, take, drop, leb, eqb}
 use Rattle.words.specs.Lists.{pick}
 use Rattle.forms.specs.declared.text.Member.{Member}
 use Rattle.forms.specs.declared.text.Member.TheVariants.{Word, Open, Close, Bad}

@@ -1,5 +1,5 @@
 -- Laws of readable lines: a spelling has one reading (`once`), and what the reader's tests say of it.
-use Rattle.std.specs.Prelude.{ℕ, zero, suc, ◌+◌, ◌-◌, ◌<◌, ◌≤◌, ◌≡◌, Bool, replicate, get_or, take, leb, eqb}
+use Rattle.std.specs.Prelude.{ℕ, zero, suc, ◌+◌, ◌-◌, ◌<◌, ◌≤◌, ◌≡◌, Bool, get_or, take}
 use Rattle.std.proofs.Math.Path.{refl, sym, ap, ap₂, subst}
 use Rattle.std.proofs.Common.{◌∙◌, length-drop, drop_of_length-le, take-append-drop, drop-drop, length-take-le, drop_at, add-one, eqb-true, ne_eqb}
 use Rattle.std.proofs.Math.Bool.{true, false}
@@ -10,9 +10,7 @@ use Rattle.std.proofs.lemmas.List.{length-replicate}
 use Rattle.std.proofs.Math.Seq.{drop-cons, drop-length}
 use Rattle.words.specs.Lists.{pick}
 use Rattle.forms.specs.Text.{part, within, Members, none, word, sub, is_word, is_space, All, Stops, IsWord, spaces, Gap, Spells, Line, Reads, run, Next, Form, SomeForm, Some, Inside, Opened, WordHere, ListHere, EndHere}
-use Rattle.forms.specs.declared.text.Member.{Member}
 use Rattle.forms.specs.declared.text.Member.TheVariants.{Word, Open, Close, Bad}
-use Rattle.forms.specs.declared.text.Span.{Span}
 use Rattle.forms.specs.declared.text.Span.TheVariants.{Is, Isnt}
 use Rattle.forms.specs.declared.text.Past.{Past}
 use Rattle.forms.specs.declared.text.Past.TheVariants.{At, Not}

@@ -2,7 +2,6 @@ use Prim.Native.Nat.{◌≤◌, ◌-◌}
 use mathlib.Core.Path.{◌≡◌}
 use Rattle.forms.specs.Text as X
 use Rattle.forms.specs.Nums as T
-use Rattle.forms.specs.NumLaws as W
 use Rattle.forms.proofs.nums.all_hex.Given as goal
 
 abbrev pub invariant-loop-i : goal.invariant-loop-i

@@ -1,5 +1,4 @@
 -- `nums::digit_byte` meets its contract, on either side of 10. Assumes nothing.
-use Prim.Native.Nat.{◌-◌}
 use mathlib.Core.Path.{sym}
 use Rattle.forms.specs.NumLaws as W
 use Rattle.forms.proofs.nums.digit_byte.Goals as goal

@@ -1,5 +1,4 @@
 -- `nums::digit_of` meets its contract: its tests are those of `digit_of`, in order. Assumes nothing.
-use Prim.Native.Nat.{◌-◌}
 use mathlib.Core.Path.{sym, ◌∙◌}
 use Rattle.forms.specs.NumLaws as W
 use Rattle.forms.proofs.nums.digit_of.Goals as goal

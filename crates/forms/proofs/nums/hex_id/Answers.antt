@@ -5,25 +5,20 @@ use Rattle.forms.proofs.nums.hex_id.Goals as goal
 
 pub value16-requires : goal.value16-requires
 value16-requires c =
-    let s = c in
-    (omega arith, omega arith, omega arith, (W.cut-digits s.args.line.now s.args.start s.args.end _ _ _ (omega arith) (omega arith) c.cut-p3.ensures c.cut-p2.ensures c.cut-p1.ensures s.requires.3).0)
+    (omega arith, omega arith, omega arith, (W.cut-digits c.args.line.now c.args.start c.args.end _ _ _ (omega arith) (omega arith) c.cut-p3.ensures c.cut-p2.ensures c.cut-p1.ensures c.requires.3).0)
 
 pub value16-requires-2 : goal.value16-requires-2
 value16-requires-2 c =
-    let s = c in
-    (omega arith, omega arith, omega arith, (W.cut-digits s.args.line.now s.args.start s.args.end _ _ _ (omega arith) (omega arith) c.cut-p3.ensures c.cut-p2.ensures c.cut-p1.ensures s.requires.3).1)
+    (omega arith, omega arith, omega arith, (W.cut-digits c.args.line.now c.args.start c.args.end _ _ _ (omega arith) (omega arith) c.cut-p3.ensures c.cut-p2.ensures c.cut-p1.ensures c.requires.3).1)
 
 pub value16-requires-3 : goal.value16-requires-3
 value16-requires-3 c =
-    let s = c in
-    (omega arith, omega arith, omega arith, (W.cut-digits s.args.line.now s.args.start s.args.end _ _ _ (omega arith) (omega arith) c.cut-p3.ensures c.cut-p2.ensures c.cut-p1.ensures s.requires.3).2)
+    (omega arith, omega arith, omega arith, (W.cut-digits c.args.line.now c.args.start c.args.end _ _ _ (omega arith) (omega arith) c.cut-p3.ensures c.cut-p2.ensures c.cut-p1.ensures c.requires.3).2)
 
 pub value16-requires-4 : goal.value16-requires-4
 value16-requires-4 c =
-    let s = c in
-    (omega arith, omega arith, omega arith, (W.cut-digits s.args.line.now s.args.start s.args.end _ _ _ (omega arith) (omega arith) c.cut-p3.ensures c.cut-p2.ensures c.cut-p1.ensures s.requires.3).3)
+    (omega arith, omega arith, omega arith, (W.cut-digits c.args.line.now c.args.start c.args.end _ _ _ (omega arith) (omega arith) c.cut-p3.ensures c.cut-p2.ensures c.cut-p1.ensures c.requires.3).3)
 
 pub returns : goal.returns
 returns c =
-    let s = c in
-    W.cut-id s.args.line.now s.args.start s.args.end _ _ _ (omega arith) (omega arith) c.cut-p3.ensures c.cut-p2.ensures c.cut-p1.ensures _ _ _ _ c.value16.ensures c.value16-2.ensures c.value16-3.ensures c.value16-4.ensures
+    W.cut-id c.args.line.now c.args.start c.args.end _ _ _ (omega arith) (omega arith) c.cut-p3.ensures c.cut-p2.ensures c.cut-p1.ensures _ _ _ _ c.value16.ensures c.value16-2.ensures c.value16-3.ensures c.value16-4.ensures

@@ -2,7 +2,6 @@ use Prim.Native.Nat.{◌≤◌, ◌-◌}
 use mathlib.Core.Path.{◌≡◌}
 use lib.ListN.{length}
 use Rattle.forms.specs.Nums as T
-use Rattle.forms.specs.NumLaws as W
 use Rattle.forms.proofs.nums.print_words.Given as goal
 
 abbrev pub invariant-loop-i : goal.invariant-loop-i

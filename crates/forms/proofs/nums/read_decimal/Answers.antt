@@ -6,10 +6,8 @@ use Rattle.forms.proofs.nums.read_decimal.Goals as goal
 
 pub returns-then-start-end : goal.returns-then-start-end
 returns-then-start-end c =
-    let s = c in
-    sym (W.decimal-none _ _ (W.part_length s.args.line.now s.args.start s.args.end (omega arith) (omega arith) ∙ omega arith))
+    sym (W.decimal-none _ _ (W.part_length c.args.line.now c.args.start c.args.end (omega arith) (omega arith) ∙ omega arith))
 
 pub returns : goal.returns
 returns c =
-    let s = c in
-    W.decimal-is _ _ c.read_number.result (omega (arith, c.if-start-end.false, W.part_length s.args.line.now s.args.start s.args.end (omega arith) (omega arith))) c.read_number.ensures
+    W.decimal-is _ _ c.read_number.result (omega (arith, c.if-start-end.false, W.part_length c.args.line.now c.args.start c.args.end (omega arith) (omega arith))) c.read_number.ensures

@@ -1,6 +1,5 @@
 use Prim.Native.Nat.{◌≤◌, ◌-◌}
 use Rattle.forms.specs.Text as X
-use Rattle.forms.specs.Nums as T
 use Rattle.forms.specs.NumLaws as W
 use Rattle.forms.proofs.nums.read_number.Given as goal
 

@@ -1,5 +1,4 @@
 -- `nums::step` meets its contract: v * base + d passes the limit exactly if v passes the quotient. Assumes nothing.
-use Prim.Native.Nat.{◌-◌}
 use Rattle.forms.specs.NumLaws as W
 use Rattle.forms.proofs.nums.step.Goals as goal
 
@@ -8,10 +7,8 @@ returns-then-limit-d c = W.step-big c.args.limit c.args.v c.args.base c.args.d c
 
 pub returns-then-limit-d-2 : goal.returns-then-limit-d-2
 returns-then-limit-d-2 c =
-    let s = c in
-    W.step-over s.args.limit s.args.v s.args.base s.args.d s.requires c.if-limit-d.false c.if-limit-d-2.true
+    W.step-over c.args.limit c.args.v c.args.base c.args.d c.requires c.if-limit-d.false c.if-limit-d-2.true
 
 pub returns : goal.returns
 returns c =
-    let s = c in
-    W.step_in s.args.limit s.args.v s.args.base s.args.d s.requires c.if-limit-d.false c.if-limit-d-2.false
+    W.step_in c.args.limit c.args.v c.args.base c.args.d c.requires c.if-limit-d.false c.if-limit-d-2.false

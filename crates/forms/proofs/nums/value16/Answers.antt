@@ -5,10 +5,8 @@ use Rattle.forms.proofs.nums.value16.Goals as goal
 
 pub returns-in-Value : goal.returns-in-Value
 returns-in-Value c =
-    let s = c in
-    W.sixteen-is _ _ _ (omega (arith, W.part_length s.args.line.now s.args.start s.args.end (omega arith) (omega arith))) s.requires.3 c.read_number.ensures c.in-Value.is
+    W.sixteen-is _ _ _ (omega (arith, W.part_length c.args.line.now c.args.start c.args.end (omega arith) (omega arith))) c.requires.3 c.read_number.ensures c.in-Value.is
 
 pub returns-in-NoNumber : goal.returns-in-NoNumber
 returns-in-NoNumber c =
-    let s = c in
-    absurd (W.sixteen-no _ _ (omega (arith, W.part_length s.args.line.now s.args.start s.args.end (omega arith) (omega arith))) s.requires.3 c.read_number.ensures c.in-NoNumber.is)
+    absurd (W.sixteen-no _ _ (omega (arith, W.part_length c.args.line.now c.args.start c.args.end (omega arith) (omega arith))) c.requires.3 c.read_number.ensures c.in-NoNumber.is)

@@ -1,5 +1,4 @@
 -- `text::end_here` meets its contract, from what `next` found. Assumes nothing.
-use Prim.Native.Nat.{◌-◌}
 use mathlib.Core.Path.{subst}
 use Rattle.forms.specs.Text as T
 use Rattle.forms.specs.TextLaws as W
@@ -8,20 +7,16 @@ use Rattle.forms.proofs.text.end_here.Goals as goal
 
 pub returns-in-Close : goal.returns-in-Close
 returns-in-Close c =
-    let s = c in
-    W.end-close s.args.line.now s.args.at s.args.gap _ (subst (λ (r : Member). T.Next s.args.line.now s.args.at s.args.gap r) c.in-Close.is c.next.ensures)
+    W.end-close c.args.line.now c.args.at c.args.gap _ (subst (λ (r : Member). T.Next c.args.line.now c.args.at c.args.gap r) c.in-Close.is c.next.ensures)
 
 pub returns-in-Word : goal.returns-in-Word
 returns-in-Word c =
-    let s = c in
-    W.end-word s.args.line.now s.args.at s.args.gap _ _ (subst (λ (r : Member). T.Next s.args.line.now s.args.at s.args.gap r) c.in-Word.is c.next.ensures)
+    W.end-word c.args.line.now c.args.at c.args.gap _ _ (subst (λ (r : Member). T.Next c.args.line.now c.args.at c.args.gap r) c.in-Word.is c.next.ensures)
 
 pub returns-in-Open : goal.returns-in-Open
 returns-in-Open c =
-    let s = c in
-    W.end-open s.args.line.now s.args.at s.args.gap _ (subst (λ (r : Member). T.Next s.args.line.now s.args.at s.args.gap r) c.in-Open.is c.next.ensures)
+    W.end-open c.args.line.now c.args.at c.args.gap _ (subst (λ (r : Member). T.Next c.args.line.now c.args.at c.args.gap r) c.in-Open.is c.next.ensures)
 
 pub returns-in-Bad : goal.returns-in-Bad
 returns-in-Bad c =
-    let s = c in
-    W.end-bad s.args.line.now s.args.at s.args.gap (subst (λ (r : Member). T.Next s.args.line.now s.args.at s.args.gap r) c.in-Bad.is c.next.ensures)
+    W.end-bad c.args.line.now c.args.at c.args.gap (subst (λ (r : Member). T.Next c.args.line.now c.args.at c.args.gap r) c.in-Bad.is c.next.ensures)

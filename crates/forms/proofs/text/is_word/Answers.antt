@@ -1,5 +1,4 @@
 -- `text::is_word` meets its contract: each of its tests is one of `is_word`'s. Assumes nothing.
-use Prim.Native.Nat.{◌-◌}
 use mathlib.Core.Path.{sym, ◌∙◌}
 use Rattle.forms.specs.TextLaws as W
 use Rattle.forms.proofs.text.is_word.Goals as goal

@@ -1,6 +1,5 @@
 -- `text::parted` meets its contract, by the cases of `Gap`. Assumes nothing.
 use native.Mathlib.Omega.{arith}
-use Prim.Native.Nat.{◌-◌}
 use borrow.Author.Tests.{ltb-true, ltb-false}
 use Rattle.forms.specs.TextLaws as W
 use Rattle.forms.proofs.text.parted.Goals as goal

@@ -1,6 +1,5 @@
 -- `text::skip` meets its contract: the run of spaces from where it stands ends where that from the start ends. The measure is what is left. Assumes nothing.
 use native.Mathlib.Omega.{arith}
-use Prim.Native.Nat.{◌-◌}
 use mathlib.Core.Path.{sym, ◌∙◌}
 use borrow.Author.Tests.{eq-eqb, ne_eqb}
 use Rattle.forms.specs.Text as T

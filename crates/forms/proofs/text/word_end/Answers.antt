@@ -1,6 +1,5 @@
 -- `text::word_end` meets its contract: the run of word bytes from where it stands ends where that from the start ends. The measure is what is left. Assumes nothing.
 use native.Mathlib.Omega.{arith}
-use Prim.Native.Nat.{◌-◌}
 use mathlib.Core.Path.{sym, ◌∙◌}
 use Rattle.forms.specs.Text as T
 use Rattle.forms.specs.TextLaws as W

@@ -2,7 +2,6 @@ use Prim.Native.Nat.{◌≤◌, ◌-◌, ◌+◌}
 use mathlib.Core.Path.{◌≡◌}
 use lib.ListN.{length, drop}
 use Rattle.forms.specs.Text as T
-use Rattle.forms.specs.TextLaws as W
 use Rattle.forms.proofs.text.word_end.Given as goal
 
 abbrev pub invariant-loop-i : goal.invariant-loop-i

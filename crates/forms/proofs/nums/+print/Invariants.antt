@@ -1,0 +1,4 @@
+use Rattle.forms.proofs.nums.+print.Given as goal
+
+abbrev pub decreases-print : goal.decreases-print
+decreases-print l = l.width
