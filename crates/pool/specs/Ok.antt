@@ -1,7 +1,7 @@
 -- The store's validity beside room: what an accepted start leaves and every call keeps (document 01, "The ordered pool"). The entries are in priority
 -- order, each id once; every box record is a pooled transaction's; a transaction's records are its inputs, then its outputs; each box has at most one
 -- live record of each kind. Insertion of an id that is not pooled, removal, eviction and a change of weights keep it.
-use Rattle.std.specs.Prelude.{ℕ, zero, suc, ◌+◌, ◌<◌, ◌≡◌, refl, Bool, true, false, not, List, [], ◌∷◌, ◌++◌, map, eqb, leb, length}
+use Rattle.std.specs.Prelude.{ℕ, zero, suc, ◌<◌, ◌≡◌, refl, Bool, true, false, not, List, [], ◌∷◌, ◌++◌, map, eqb, leb, length}
 use Rattle.std.proofs.Common.{sym, ap, ◌∙◌, append-nil, not-suc-le-zero, arith, eq-eqb, eqb-true, leb-false}
 use Rattle.std.proofs.lemmas.Bool.{eqb-false}
 use Rattle.words.specs.Lists.{pick, keep, other, count, Once, count-append, count-map-keep, keep_append, keep_all, keep-none, map-append, absent-head, absent-tail}

@@ -1,6 +1,6 @@
 -- What the pool's functions leave, from what their calls leave in each table.
-use Rattle.std.specs.Prelude.{ℕ, ◌+◌, ◌-◌, ◌<◌, ◌≡◌, refl, false, List}
-use Rattle.std.proofs.Common.{ap, ◌∙◌, arith}
+use Rattle.std.specs.Prelude.{ℕ, ◌+◌, ◌-◌, ◌≡◌, refl, false, List}
+use Rattle.std.proofs.Common.{ap, ◌∙◌}
 use Rattle.words.specs.Lists.{pick}
 use Rattle.words.specs.Find.{without, drop_last}
 use Rattle.pool_types.specs.declared.Counts.{Counts}
@@ -8,7 +8,7 @@ use Rattle.entries.specs.Entries.{Entry, insert_by, pooled}
 use Rattle.entries.specs.Layout.{entries_of}
 use Rattle.entries.specs.Layout.{Left as Rows}
 use Rattle.entries.specs.Laws.{removed-count}
-use Rattle.boxes.specs.Records.{BoxRec, enter_tx, drop_owner}
+use Rattle.boxes.specs.Records.{BoxRec, drop_owner}
 use Rattle.boxes.specs.Layout.{BoxesOk, boxes_of}
 use Rattle.boxes.specs.Index.{BoxesKept}
 use Rattle.boxes.specs.Posts.{Entered, Dropped}
