@@ -1,0 +1,7 @@
+-- `conflicts::put_once` meets its contract: the id is among the first n (`added-in`), or it is stored behind them (`added_new`). Assumes nothing.
+use mathlib.Core.Path.{sym, ◌∙◌}
+use Rattle.indexes.specs.Conflicts.{added_new}
+use Rattle.indexes.proofs.conflicts.put_once.Goals as goal
+
+pub returns-else-among : goal.returns-else-among
+returns-else-among c = rw c.put_id.ensures (added_new _ _ _ c.requires (sym c.among.ensures ∙ c.if-among.false))
