@@ -1,7 +1,7 @@
 -- Laws of fields: what the cursor functions of crate forms find says what is left of the members.
 use Rattle.std.specs.Prelude.{ℕ, suc, ◌+◌, ◌-◌, ◌<◌, ◌≤◌, ◌≡◌, Bool, length, eqb}
 use Rattle.std.proofs.Math.Path.{refl, sym, ap, subst}
-use Rattle.std.proofs.Common.{ap₂, ◌∙◌, add-one, length-drop, drop-cons, eqb-true, ne_eqb, eq-eqb}
+use Rattle.std.proofs.Common.{ap₂, ◌∙◌, add-one, drop-cons, ne_eqb, eq-eqb}
 use Rattle.std.proofs.Math.Bool.{true, false}
 use mathlib.Core.List.{List, [], ◌∷◌}
 use native.Mathlib.Omega.{arith}
@@ -10,10 +10,10 @@ use Rattle.std.proofs.Math.Seq.{drop-length}
 use Rattle.words.specs.Lists.{pick}
 use Rattle.words.specs.Sums.{cap}
 use Rattle.words.specs.declared.ids.Id.{Id}
-use Rattle.forms.specs.Text.{Members, none, word, sub, Reads, part, WordHere, ListHere, EndHere}
+use Rattle.forms.specs.Text.{Members, none, word, sub, part, WordHere, ListHere, EndHere}
 use Rattle.forms.specs.TextLaws.{true-false, by_bool}
 use Rattle.forms.specs.Nums.{decimal, id_read}
-use Rattle.forms.specs.NumLaws.{decimal-none, decimal-le, id-none, part-cons, part_end, part_length}
+use Rattle.forms.specs.NumLaws.{decimal-none, decimal-le, id-none, part-cons, part_end}
 use Rattle.forms.specs.declared.text.Span.{Span}
 use Rattle.forms.specs.declared.text.Span.TheVariants.{Is, Isnt}
 use Rattle.forms.specs.declared.nums.Number.{Number}
@@ -22,7 +22,6 @@ use Rattle.forms.specs.declared.nums.IdRead.{IdRead}
 use Rattle.forms.specs.declared.nums.IdRead.TheVariants.{Of, NoId}
 use Rattle.lines.specs.declared.fields.Verdict.{Verdict}
 use Rattle.lines.specs.declared.fields.Verdict.TheVariants.{Valid, Invalid, NoVerdict}
-use Rattle.lines.specs.declared.fields.Optional.{Optional}
 use Rattle.lines.specs.declared.fields.Optional.TheVariants.{Some, Absent}
 use Rattle.lines.specs.Fields.{Rest, gone, here, word_of, past_word, list_of, past_list, ended, Kind, value, past, value_or0, is_value, numbers, id_or0, is_of, ids, same, choices, optional, number64, w_ok, w_bad, w_none, judged, is_judged, past_verdict, Stands, FieldAt, JudgeAt, VerdictAt}
 

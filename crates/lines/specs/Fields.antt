@@ -1,6 +1,6 @@
 -- The fields of a form, read one behind the other from what is left of its members: a number of a width, an id, one of two words, a number or a
 -- word in its place, a verdict. Once a member is not what the form wants, nothing is left (`gone`), and every field behind it finds nothing.
-use Rattle.std.specs.Prelude.{ℕ, suc, ◌<◌, ◌≤◌, ◌≡◌, refl, Bool, true, false, List, [], ◌∷◌, length, drop, eqb}
+use Rattle.std.specs.Prelude.{ℕ, ◌<◌, ◌≤◌, ◌≡◌, refl, Bool, true, false, List, [], ◌∷◌, length, drop, eqb}
 use Rattle.words.specs.Lists.{pick}
 use Rattle.words.specs.Sums.{cap}
 use Rattle.words.specs.declared.ids.Id.{Id}

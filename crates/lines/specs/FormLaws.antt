@@ -9,17 +9,15 @@ use Rattle.forms.specs.Nums.{over}
 use Rattle.forms.specs.TextLaws.{true-false, by_bool}
 use Rattle.lines.specs.declared.read.Form.{Form}
 use Rattle.lines.specs.declared.read.Form.TheVariants.{Unread}
-use Rattle.lines.specs.declared.items.Records.TheVariants.{Boxes, Flags, Inputs, Heights, Outputs}
 use Rattle.lines.specs.Fields.{Rest, gone, here, word_of, past_word, list_of, past_list, ended, Stands, same, is_judged, past_verdict}
-use Rattle.lines.specs.Items.{Item, item_of, words_in, all_in, fits, past_items}
+use Rattle.lines.specs.Items.{Item, all_in, fits, past_items}
 use Rattle.forms.specs.Text.{Members, Line, Reads, Opened, WordHere, part}
 use Rattle.forms.specs.TextLaws.{line-once}
 use Rattle.forms.specs.declared.text.Past.{Past}
 use Rattle.forms.specs.declared.text.Past.TheVariants.{At, Not}
-use Rattle.forms.specs.declared.text.Span.{Span}
 use Rattle.forms.specs.declared.text.Span.TheVariants.{Is, Isnt}
 use Rattle.lines.specs.FieldLaws.{stands_word, stands-no-word}
-use Rattle.lines.specs.Forms.{is_read, tx_lists, return_lists, FormAt, ListsAt, AnswerAt, ReadAt, tx_one, tx_two, return_one, return_two, block_one, block_two, answer_one, rebroadcast_one, one_of, two_of, worded, tx_of, return_of, block_of, answer_of, rebroadcast_of, change_of, query_of, measure_of, worded_of, form_of, w_tx, w_return, w_block, w_answer, w_rebroadcast}
+use Rattle.lines.specs.Forms.{is_read, FormAt, ListsAt, AnswerAt, ReadAt, tx_one, tx_two, return_one, return_two, block_one, block_two, answer_one, rebroadcast_one, one_of, two_of, worded, tx_of, return_of, block_of, answer_of, rebroadcast_of, change_of, query_of, measure_of, worded_of, form_of, w_tx, w_return, w_block, w_answer, w_rebroadcast}
 
 -- ---- nothing is left behind a list that has no room
 

@@ -4,16 +4,12 @@ use Rattle.std.specs.Prelude.{ℕ, ◌≡◌, refl, Bool, true, false, [], ◌�
 use Rattle.std.proofs.Common.{sym, ap, ◌∙◌}
 use mathlib.Core.List as ListOf
 use Rattle.words.specs.Lists.{pick}
-use Rattle.lines.specs.declared.read.PoolForm.{PoolForm}
 use Rattle.lines.specs.declared.read.Form.{Form}
-use Rattle.lines.specs.declared.read.TxForm.{TxForm}
-use Rattle.lines.specs.declared.read.ReturnForm.{ReturnForm}
-use Rattle.lines.specs.declared.read.BlockForm.{BlockForm}
 use Rattle.lines.specs.declared.read.Form.TheVariants.{Pool, Tx, Return, Block, Invalidate, Open, Next, Answer, Rebroadcast, List, Top, Len, Contains, Spending, Fee, Wait, Histogram, Charges, Written, Unread}
 use Rattle.lines.specs.declared.items.Records.TheVariants.{Boxes, Flags, Inputs, Heights, Outputs}
 use Rattle.forms.specs.Text.{Members, none, word, sub, Line}
 use Rattle.forms.specs.Nums.{over, decimal, id_read, is_hex, is_digits, more, digit_of, id_of_digits}
-use Rattle.lines.specs.Fields.{Rest, here, gone, word_of, past_word, list_of, past_list, ended, Stands, value, past, number64, number32, numbers, ids, choices, optional, same, judged, past_verdict, w_none}
+use Rattle.lines.specs.Fields.{Rest, here, word_of, past_word, list_of, past_list, ended, Stands, value, past, number64, number32, numbers, ids, choices, optional, same, judged, past_verdict, w_none}
 use Rattle.lines.specs.Items.{w_fee, item_of, boxes, words_of, words_in, all_ok, all_in, fits, count, count_in, count_of, past_items}
 use Rattle.lines.specs.Blocks.{transactions, tx_words, box_words, is_tx, box_list, inputs_of, inputs_in, fits_block, txs_count, inputs_count, past_block}
 

@@ -1,7 +1,7 @@
 -- Laws of lists of records: a record's words are written behind those before it, and what is left of the list says the rest.
-use Rattle.std.specs.Prelude.{ℕ, zero, suc, ◌+◌, ◌-◌, ◌*◌, ◌<◌, ◌≤◌, ◌≡◌, Bool, set, leb}
+use Rattle.std.specs.Prelude.{ℕ, suc, ◌+◌, ◌-◌, ◌*◌, ◌<◌, ◌≤◌, ◌≡◌, Bool, set, leb}
 use Rattle.std.proofs.Math.Path.{refl, sym, ap, ap₂, subst}
-use Rattle.std.proofs.Common.{◌∙◌, arith, add-suc, suc-mul, add-one, length-drop, take-append-drop, drop_at, take_at, take-add, le-leb}
+use Rattle.std.proofs.Common.{◌∙◌, arith, add-suc, suc-mul, add-one, length-drop, take-append-drop, drop_at, take_at, le-leb}
 use Rattle.std.proofs.Math.Bool.{true, false}
 use mathlib.Core.List.{List, [], ◌∷◌, ◌++◌, append_assoc, append-nil}
 use Rattle.std.proofs.Math.ListN.{length, take, drop, length-append}
@@ -12,16 +12,15 @@ use Rattle.words.specs.Lists.{pick}
 use Rattle.words.specs.Rows.{stored, puts}
 use Rattle.words.specs.Ids.{id_words}
 use Rattle.words.specs.declared.ids.Id.{Id}
-use Rattle.forms.specs.Text.{Members, none, word, sub, Reads, ListHere, EndHere}
+use Rattle.forms.specs.Text.{Members, none, word, sub, ListHere, EndHere}
 use Rattle.forms.specs.TextLaws.{true-false, by_bool, reads_end}
 use Rattle.forms.specs.Nums.{over}
 use Rattle.forms.specs.NumLaws.{id-none}
-use Rattle.forms.specs.declared.text.Span.{Span}
 use Rattle.forms.specs.declared.text.Span.TheVariants.{Is, Isnt}
 use Rattle.lines.specs.declared.items.Records.{Records}
-use Rattle.lines.specs.Fields.{Rest, gone, here, word_of, past_word, list_of, past_list, ended, Kind, value, past, ids, choices, number32, number64, is_of, same, Stands, FieldAt}
+use Rattle.lines.specs.Fields.{Rest, gone, here, word_of, past_word, list_of, past_list, ended, Kind, past, ids, choices, number32, number64, is_of, same, Stands, FieldAt}
 use Rattle.lines.specs.FieldLaws.{stands-list, stands-no-list, stands-end, stands-gone}
-use Rattle.lines.specs.Items.{Item, item_of, w_set, w_not, w_fee, w_pay, word_item, list_item, boxes, flags, flag_words, inputs, input_words, is_input, heights, height_words, is_height, outputs, output_words, is_output, words_of, all_ok, words_in, all_in, fits, count_of, past_items, count, count_in, past_one, ItemAt, ItemsAt, ListAt}
+use Rattle.lines.specs.Items.{Item, item_of, w_set, w_not, w_fee, w_pay, word_item, list_item, input_words, is_input, height_words, is_height, output_words, is_output, words_of, all_ok, words_in, all_in, fits, count_of, past_items, count, count_in, past_one, ItemAt, ItemsAt, ListAt}
 
 -- ---- words written
 

@@ -1,6 +1,6 @@
 -- Lists of records in a form, as the flat words that a call takes: inputs `(BOX set|not)`, outputs `(BOX VALUE fee|pay HEIGHT)`, a return's outputs
 -- `(BOX HEIGHT)`, box ids, and an answer's flags. Each record is one member of its list.
-use Rattle.std.specs.Prelude.{ℕ, zero, suc, ◌+◌, ◌≤◌, ◌<◌, ◌≡◌, refl, Bool, true, false, List, [], ◌∷◌, ◌++◌, length, take, drop, leb}
+use Rattle.std.specs.Prelude.{ℕ, suc, ◌≤◌, ◌<◌, ◌≡◌, refl, Bool, true, false, List, [], ◌∷◌, ◌++◌, length, leb}
 use Rattle.words.specs.Lists.{pick}
 use Rattle.words.specs.Ids.{id_words}
 use Rattle.forms.specs.Text.{Members, none, word, sub}

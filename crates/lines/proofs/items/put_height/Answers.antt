@@ -1,0 +1,31 @@
+-- `items::put_height` meets its contract: the fields inside the brackets are read, their words are written, and the list must end.
+use native.Mathlib.Omega.{arith}
+use mathlib.Core.Path.{refl, ap}
+use mathlib.Core.List.{List}
+use Prim.Native.Nat.{ℕ, ◌+◌}
+use lib.ListN.{set}
+use Rattle.lines.specs.FieldLaws as W
+use Rattle.lines.specs.Items as I
+use Rattle.lines.specs.ItemLaws as L
+use Rattle.lines.proofs.items.put_height.Goals as goal
+
+pub returns-in_default : goal.returns-in_default
+unfolding I.heights I.height_words
+returns-in_default c =
+    L.item-none 5 I.height_words I.is_height (λ i. refl) L.height-gone c.args.line.now c.args.at c.args.gap c.args.depth c.args.k c.args.out.now c.requires.1 (W.at-list c.args.line.now c.args.at c.args.gap c.args.depth _ _ c.list_here.ensures c.in_default.is)
+
+pub id-x-requires : goal.id-x-requires
+id-x-requires c =
+    let w = W.list-in c.args.line.now c.args.at c.args.gap c.args.depth _ _ _ c.list_here.ensures c.in-Is.is in omega (arith, w.1, w.2)
+
+pub returns-then-end_here : goal.returns-then-end_here
+unfolding I.heights I.height_words
+returns-then-end_here c =
+    let at-number = c.number-height in
+    L.item-yes 5 I.height_words I.is_height (λ i. refl) L.height-gone c.args.line.now c.args.at c.args.gap c.args.depth c.args.k c.args.out.now c.requires.1 _ _ (W.at-list c.args.line.now c.args.at c.args.gap c.args.depth _ _ c.list_here.ensures c.in-Is.is) _ _ refl (L.inner-height c.args.line.now _ _ _ _ c.id-x.ensures _ _ at-number.ensures.is c.end_here.ensures) _ (ap (λ (z : List ℕ). set z (c.args.k + 4) at-number.result.value) c.put_id.ensures) c.if-end_here.true
+
+pub returns : goal.returns
+unfolding I.heights I.height_words
+returns c =
+    let at-number = c.number-height in
+    L.item-off 5 I.height_words I.is_height (λ i. refl) L.height-gone c.args.line.now c.args.at c.args.gap c.args.depth c.args.k c.args.out.now c.requires.1 _ _ (W.at-list c.args.line.now c.args.at c.args.gap c.args.depth _ _ c.list_here.ensures c.in-Is.is) _ _ refl (L.inner-height c.args.line.now _ _ _ _ c.id-x.ensures _ _ at-number.ensures.is c.end_here.ensures) _ (ap (λ (z : List ℕ). set z (c.args.k + 4) at-number.result.value) c.put_id.ensures) c.if-end_here.false

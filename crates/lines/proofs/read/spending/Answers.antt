@@ -1,0 +1,18 @@
+-- `read::spending` meets its contract: field by field, then the end.
+use mathlib.Core.Bool.{false}
+use Rattle.lines.specs.FieldLaws as W
+use Rattle.lines.specs.Forms as F
+use Rattle.lines.specs.declared.read.Form.TheVariants.{Spending}
+use Rattle.lines.proofs.read.spending.Goals as goal
+
+pub returns-then-end_here : goal.returns-then-end_here
+unfolding F.FormAt F.spending_of
+returns-then-end_here c = λ d t s h.
+    let a = c.id-x.ensures.is d t _ h in
+    F.is_whole _ _ _ _ (W.stands-end c.args.line.now _ false d t _ c.end_here.ensures _ a.1) c.if-end_here.true (λ i. Spending (a.0 i))
+
+pub returns : goal.returns
+unfolding F.FormAt F.spending_of
+returns c = λ d t s h.
+    let a = c.id-x.ensures.is d t _ h in
+    F.is-not _ _ _ (W.stands-end c.args.line.now _ false d t _ c.end_here.ensures _ a.1) c.if-end_here.false

@@ -1,0 +1,22 @@
+-- `read::wait` meets its contract: field by field, then the end.
+use mathlib.Core.Bool.{false}
+use Rattle.lines.specs.FieldLaws as W
+use Rattle.lines.specs.Forms as F
+use Rattle.lines.specs.declared.read.Form.TheVariants.{Wait}
+use Rattle.lines.proofs.read.wait.Goals as goal
+
+pub returns-then-end_here : goal.returns-then-end_here
+unfolding F.FormAt F.wait_of
+returns-then-end_here c = λ d t s h.
+    let a = c.number64-time.ensures.is d t _ h in
+    let b = c.number64-fee.ensures.is d t _ a.1 in
+    let j = c.number32-size.ensures.is d t _ b.1 in
+    F.is_whole _ _ _ _ (W.stands-end c.args.line.now _ false d t _ c.end_here.ensures _ j.1) c.if-end_here.true (λ i. Wait (a.0 i) (b.0 i) (j.0 i))
+
+pub returns : goal.returns
+unfolding F.FormAt F.wait_of
+returns c = λ d t s h.
+    let a = c.number64-time.ensures.is d t _ h in
+    let b = c.number64-fee.ensures.is d t _ a.1 in
+    let j = c.number32-size.ensures.is d t _ b.1 in
+    F.is-not _ _ _ (W.stands-end c.args.line.now _ false d t _ c.end_here.ensures _ j.1) c.if-end_here.false
