@@ -1,6 +1,6 @@
 -- The walk by frames (docs/DECISIONS.md, D19). A frame stands for the parents that the inputs of its transaction in the first slots
 -- still give; the frames together stand for the stack of parents, the last frame on top. A turn looks at the last frame: it pops it, or visits its last parent.
-use Rattle.std.specs.Prelude.{ℕ, zero, suc, ◌+◌, ◌-◌, ◌≤◌, ◌<◌, ◌≡◌, refl, true, length, take}
+use Rattle.std.specs.Prelude.{ℕ, zero, suc, ◌-◌, ◌≤◌, ◌<◌, ◌≡◌, refl, true, length, take}
 use Rattle.std.proofs.Common.{sym, ap, arith, take_all}
 use mathlib.Core.List.{List, [], ◌∷◌, ◌++◌, reverse_aux}
 use Rattle.entries.specs.Entries.{Entry, credit}
