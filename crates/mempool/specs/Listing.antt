@@ -1,13 +1,13 @@
 -- Entries listed into an answer buffer: six words each, "id, weight and base of each entry" (document 01; docs/DECISIONS.md, D5 and D6).
-use Prim.Native.Nat.{ℕ, suc, ◌+◌, ◌*◌, ◌/◌, ◌≤◌, ◌<◌, min}
-use Rattle.std.specs.Prelude.{◌≡◌, refl, Bool, true, false, List, [], ◌∷◌, ◌++◌, map, leb, ltb, length, get_or, drop, set}
-use Rattle.std.proofs.Common.{sym, ap, ◌∙◌, add-mul, add-one, length-set, length-take, drop-set-lt, drop-drop, take_all}
+use Prim.Native.Nat.{ℕ, ◌+◌, ◌*◌, ◌/◌, ◌≤◌, ◌<◌, min}
+use Rattle.std.specs.Prelude.{◌≡◌, refl, List, [], ◌∷◌, ◌++◌, map, leb, ltb, length, get_or, drop, set}
+use Rattle.std.proofs.Common.{sym, ap, ◌∙◌, length-set, drop-set-lt, drop-drop, take_all}
 use native.Mathlib.Omega.{arith}
 use Rattle.std.proofs.Math.ListN.{take}
 use Rattle.std.proofs.lemmas.List.{length-map}
 use borrow.Author.Tests.{le-leb, lt-leb, le-ltb, lt-ltb}
 use Rattle.words.specs.Lists.{pick, map-append}
-use Rattle.words.specs.Rows.{stored, stored-append, rec_at, recs, length-recs, get_or-recs, take-recs, recs-store}
+use Rattle.words.specs.Rows.{stored, rec_at, recs, length-recs, get_or-recs, take-recs, recs-store}
 use Rattle.words.specs.Tables.{Table, put-end, of_none, of-suc}
 use Rattle.words.specs.Ids.{id_of, id_at, id_words}
 use Rattle.words.specs.declared.ids.Id.{Id}

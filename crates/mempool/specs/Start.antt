@@ -2,7 +2,7 @@
 -- records, capacity above E−1, cache above K, a cost limit above 2^63").
 use Rattle.std.specs.Prelude.{ℕ, ◌≡◌, Bool, not, eqb, leb, ltb}
 use Rattle.std.proofs.Math.Path.{refl}
-use Rattle.std.proofs.Common.{sym, ap, ◌∙◌}
+use Rattle.std.proofs.Common.{ap, ◌∙◌}
 use Rattle.std.proofs.Math.Bool.{true, false}
 use Rattle.words.specs.Lists.{pick}
 use Rattle.pool_types.specs.declared.MempoolConfig.{MempoolConfig}

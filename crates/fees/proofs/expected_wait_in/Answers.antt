@@ -22,7 +22,7 @@ pub returns-then-size-gt-MAX_TRANSACTION_SIZE : goal.returns-then-size-gt-MAX_TR
 unfolding number_of
 returns-then-size-gt-MAX_TRANSACTION_SIZE c =
     let a = c.args in
-    let some : 0 < a.size = omega (arith, c.if-size-eq0.false) in
+    let some : 0 < a.size = omega arith in
     let large : 98304 < a.size = omega arith in
     wait-large _ _ _ _ _ _ _ (omega arith) some large
 
@@ -34,6 +34,6 @@ unfolding number_of
 returns c =
     let s = c in
     let a = s.args in
-    let some : 0 < a.size = omega (arith, s.if-size-eq0.false) in
+    let some : 0 < a.size = omega arith in
     let fits : a.size ≤ 98304 = omega arith in
     wait-given _ _ _ _ _ _ _ (omega arith) some fits _ _ _ c.fee_per_kb.ensures c.position-place.ensures c.wait_for_position.ensures
