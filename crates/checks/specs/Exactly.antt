@@ -1,6 +1,6 @@
 -- Refusals 8, 25 and 26, "given exactly if its check is reached and" what document 01 says of each, in its words.
 use Rattle.std.specs.Prelude.{ℕ, ◌+◌, ◌≤◌, ◌<◌, ◌≡◌, refl, Bool, not, List, leb, ltb}
-use Rattle.std.proofs.Common.{sym, ap, ◌∙◌, arith, le-ltb}
+use Rattle.std.proofs.Common.{arith, le-ltb}
 use Rattle.std.proofs.Math.Bool.{true, false}
 use Rattle.std.proofs.lemmas.Bool.{lt-leb}
 use Rattle.words.specs.Lists.{pick, Once}
