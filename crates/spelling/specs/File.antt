@@ -1,10 +1,10 @@
 -- A whole file, tidied: its lines end in byte 10, the last where the file ends. Document 02: "Unreadable lines and line ends are copied unchanged"; "tidying
 -- twice equals tidying once"; "`poolrun` gives the same output on the tidied file".
-use Rattle.std.specs.Prelude.{ℕ, suc, ◌+◌, ◌≤◌, ◌<◌, ◌≡◌, refl, Bool, true, false, List, [], ◌∷◌, ◌++◌, length, eqb}
+use Rattle.std.specs.Prelude.{ℕ, ◌≡◌, Bool, true, false, List, [], ◌∷◌, ◌++◌, length, eqb}
 use Rattle.std.proofs.Common.{sym, ap, ap₂, subst, ◌∙◌, arith, eqb-true}
 use Rattle.words.specs.Lists.{pick}
 use Rattle.forms.specs.Text.{Members, Line}
-use Rattle.forms.specs.TextLaws.{true-false, by_bool, line-once}
+use Rattle.forms.specs.TextLaws.{by_bool, line-once}
 use Rattle.forms.specs.Nums.{over}
 use Rattle.lines.specs.declared.read.Form.{Form}
 use Rattle.lines.specs.Fields.{here, word_of, past_word}
@@ -13,7 +13,7 @@ use Rattle.spelling.specs.Spelling.{lower, tidied, spelled, leads, owes, put, jo
 use Rattle.spelling.specs.WordLaws.{by-case}
 use Rattle.spelling.specs.SqueezeLaws.{at-space, at-lead, at_byte, squeezed-line, line-tidied}
 use Rattle.spelling.specs.FormBack.{Out, out_of, read_back}
-use Rattle.spelling.specs.Tidied.{Tidied, read, kept, tidied-again, tidied-long, tidied-once}
+use Rattle.spelling.specs.Tidied.{Tidied, read, kept, tidied-again}
 
 -- no line end among the bytes
 unfoldable pub Clean : List ℕ → Type 0

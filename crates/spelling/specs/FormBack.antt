@@ -1,5 +1,5 @@
 -- THEOREM `read_back`: a readable form, tidied, is read as the same form with the same words of its lists.
-use Rattle.std.specs.Prelude.{ℕ, ◌≡◌, refl, Bool, true, false, [], ◌∷◌}
+use Rattle.std.specs.Prelude.{ℕ, ◌≡◌, refl, Bool, true, false, []}
 use Rattle.std.proofs.Common.{sym, ap, ◌∙◌, subst}
 use mathlib.Core.List as ListOf
 use Rattle.words.specs.Lists.{pick}
@@ -8,11 +8,10 @@ use Rattle.forms.specs.Text.{Members, none, word, sub}
 use Rattle.forms.specs.TextLaws.{by_bool, true-false}
 use Rattle.forms.specs.Nums.{decimal, is_digits, digit_of}
 use Rattle.lines.specs.declared.items.Records.TheVariants.{Boxes, Flags, Inputs, Heights, Outputs}
-use Rattle.lines.specs.declared.fields.Verdict.{Verdict}
 use Rattle.lines.specs.declared.read.Form.{Form}
-use Rattle.lines.specs.declared.read.Form.TheVariants.{Pool, Tx, Return, Block, Invalidate, Open, Next, Answer, Rebroadcast, List, Top, Len, Contains, Spending, Fee, Wait, Histogram, Charges, Written, Unread}
-use Rattle.lines.specs.Fields.{Rest, gone, here, word_of, past_word, list_of, past_list, ended, value, past, is_value, number64, number32, ids, same, choices, optional, w_none, judged, past_verdict}
-use Rattle.lines.specs.Items.{w_fee, item_of, words_in, count_of, past_items}
+use Rattle.lines.specs.declared.read.Form.TheVariants.{Pool, Tx, Return, Block, Invalidate, Open, Next, Answer, Rebroadcast, List, Top, Len, Contains, Spending, Fee, Wait, Histogram, Charges, Written}
+use Rattle.lines.specs.Fields.{Rest, gone, here, word_of, past_word, list_of, ended, value, past, is_value, number64, number32, ids, same, choices, optional, w_none, judged, past_verdict}
+use Rattle.lines.specs.Items.{w_fee, item_of, words_in}
 use Rattle.lines.specs.Blocks.{transactions, inputs_in, txs_count, inputs_count, past_block}
 use Rattle.lines.specs.Forms.{is_read, whole, plain_of, invalidate_of, open_of, top_of, contains_of, spending_of, fee_of, wait_of, histogram_of, w_byte, w_cycle, pool_of, w_local, w_pool, w_tx, w_return, w_block, w_invalidate, w_open, w_next, w_answer, w_rebroadcast, w_list, w_top, w_len, w_contains, w_spending, w_wait, w_histogram, w_charges, w_written, tx_lists, tx_of, return_of, return_lists, block_of, answer_of, rebroadcast_of, measure_of, query_of, change_of, worded_of, form_of, tx_one, tx_two, return_one, return_two, block_one, block_two, answer_one, rebroadcast_one, one_of, two_of}
 use Rattle.spelling.specs.Spelling.{lower, lowered, plain, tidied}

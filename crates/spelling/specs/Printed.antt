@@ -1,15 +1,14 @@
 -- The spelling of a number is what poolrun prints of it (`plain-number`), and that of an id too (`plain-hex`): the printers of crate forms say the same as
 -- "decimal and lower-case hexadecimal without leading zeros, 0 for zero".
-use Rattle.std.specs.Prelude.{ℕ, suc, ◌+◌, ◌-◌, ◌*◌, ◌^◌, ◌<◌, ◌≤◌, ◌≡◌, refl, Bool, true, false, List, [], ◌∷◌, length, get_or, leb, ltb}
+use Rattle.std.specs.Prelude.{ℕ, ◌+◌, ◌-◌, ◌*◌, ◌^◌, ◌<◌, ◌≤◌, ◌≡◌, refl, Bool, true, false, List, [], ◌∷◌, length, get_or, leb, ltb}
 use Rattle.std.proofs.Common.{sym, ap, ap₂, ◌∙◌, subst, arith, lt_of_lt_of_le, ltb-true, le-leb}
 use Rattle.std.proofs.Math.Nat.{pow-le-pow_right}
 use Rattle.std.proofs.lemmas.Bool.{lt-leb}
 use Rattle.words.specs.Lists.{pick}
-use Rattle.forms.specs.declared.nums.Number.{Number}
 use Rattle.forms.specs.declared.nums.Number.TheVariants.{Value, NoNumber}
 use Rattle.forms.specs.Text.{within}
 use Rattle.forms.specs.TextLaws.{by_bool, true-false}
-use Rattle.forms.specs.Nums.{digit_of, is_digits, more, number, decimal, is_hex, id_number, id_of_digits, digit_byte, numeral, decimal_text, id_text, Digits, Lower, Shows}
+use Rattle.forms.specs.Nums.{digit_of, is_digits, more, number, decimal, is_hex, id_number, id_of_digits, digit_byte, decimal_text, id_text, Digits, Lower, Shows}
 use Rattle.forms.specs.NumLaws.{within_low, digit-1, digit-2, digit-3, digit-4, byte_low, byte_high, digits_of, hex-in, id-number, number_lt, shows-once, shows-numeral}
 use Rattle.spelling.specs.Spelling.{lower, lowered, plain}
 use Rattle.spelling.specs.WordLaws.{lower-up, lower-same, lower-digit, lowered-digits, lowered-more, by-lead}

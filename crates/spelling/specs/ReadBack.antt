@@ -1,8 +1,8 @@
 -- Reading a form's single spelling gives the form back (`read_back`): the same call with the same words of its lists. Each kind of field is shown to read a
 -- tidied word as it read the word; the forms are put together from their fields as crate lines puts them together.
-use Rattle.std.specs.Prelude.{ℕ, suc, ◌≤◌, ◌≡◌, Bool, length, eqb, leb}
+use Rattle.std.specs.Prelude.{ℕ, suc, ◌≡◌, Bool, length, eqb, leb}
 use Rattle.std.proofs.Math.Path.{refl, sym, ap, ap₂}
-use Rattle.std.proofs.Common.{◌∙◌, subst, eqb-true}
+use Rattle.std.proofs.Common.{◌∙◌, eqb-true}
 use Rattle.std.proofs.Math.Bool.{true, false}
 use mathlib.Core.List.{[], ◌∷◌, ◌++◌}
 use mathlib.Core.List as ListOf
@@ -14,21 +14,16 @@ use Rattle.forms.specs.Text.{Members, none, word, sub}
 use Rattle.forms.specs.TextLaws.{by_bool, true-false}
 use Rattle.forms.specs.Nums.{decimal, id_read, is_hex, id_of_digits}
 use Rattle.forms.specs.declared.nums.Number.{Number}
-use Rattle.forms.specs.declared.nums.IdRead.{IdRead}
 use Rattle.forms.specs.declared.nums.IdRead.TheVariants.{Of, NoId}
 use Rattle.lines.specs.declared.fields.Verdict.{Verdict}
 use Rattle.lines.specs.declared.fields.Verdict.TheVariants.{Valid, Invalid, NoVerdict}
-use Rattle.lines.specs.declared.fields.Optional.{Optional}
 use Rattle.lines.specs.declared.fields.Optional.TheVariants.{Some, Absent}
 use Rattle.lines.specs.declared.items.Records.{Records}
 use Rattle.lines.specs.declared.items.Records.TheVariants.{Boxes, Flags, Inputs, Heights, Outputs}
-use Rattle.lines.specs.declared.read.Form.{Form}
-use Rattle.lines.specs.declared.read.Form.TheVariants.{Unread}
 use Rattle.lines.specs.Fields.{Rest, gone, here, word_of, past_word, list_of, past_list, ended, Kind, value, past, value_or0, is_value, numbers, number64, number32, id_or0, is_of, ids, same, choices, optional, w_ok, w_bad, w_none, judged, is_judged, past_verdict}
 use Rattle.lines.specs.Items.{Item, w_set, w_not, w_fee, w_pay, boxes, flags, input_words, is_input, inputs, height_words, is_height, heights, output_words, is_output, outputs, item_of, words_of, all_ok, words_in, all_in, fits, count_of, past_items, count, count_in}
 use Rattle.lines.specs.ItemLaws.{past-gone}
 use Rattle.lines.specs.Blocks.{box_list, tx_words, box_words, is_tx, transactions, inputs_of, inputs_in, fits_block, txs_count, inputs_count, past_block}
-use Rattle.lines.specs.Forms.{is_read, whole}
 use Rattle.spelling.specs.Spelling.{lower, lowered, plain, tidied}
 use Rattle.spelling.specs.WordLaws.{plain-decimal, plain-id}
 

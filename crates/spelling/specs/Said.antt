@@ -1,8 +1,8 @@
 -- The spelling from the form (`spelled-said`): each form's members, its numbers and ids as poolrun prints them, and the records of its lists from their words. So
 -- two readable lines that are the same form with equal members in order come out as the same bytes, and only they (`same_bytes`, Same).
-use Rattle.std.specs.Prelude.{ℕ, zero, suc, ◌+◌, ◌*◌, ◌/◌, ◌^◌, ◌<◌, ◌≤◌, ◌≡◌, Bool, [], ◌∷◌, ◌++◌, take, drop, get_or, eqb, leb}
+use Rattle.std.specs.Prelude.{ℕ, zero, suc, ◌*◌, ◌/◌, ◌^◌, ◌<◌, ◌≡◌, Bool, [], ◌∷◌, ◌++◌, take, drop, get_or, eqb, leb}
 use Rattle.std.proofs.Math.Path.{refl, sym, ap, ap₂}
-use Rattle.std.proofs.Common.{◌∙◌, subst, arith, take_at, drop_at}
+use Rattle.std.proofs.Common.{◌∙◌, arith, take_at, drop_at}
 use Rattle.std.proofs.Math.Bool.{true, false}
 use mathlib.Core.List as ListOf
 use Rattle.std.proofs.Math.ListN.{length}
@@ -12,7 +12,7 @@ use Rattle.words.specs.Ids.{id_words}
 use Rattle.words.specs.declared.ids.Id.{Id}
 use Rattle.forms.specs.Text.{Members, none, word, sub}
 use Rattle.forms.specs.TextLaws.{by_bool, true-false}
-use Rattle.forms.specs.Nums.{decimal, id_read, is_hex, is_digits, digit_of, id_of_digits, id_number, decimal_text, id_text}
+use Rattle.forms.specs.Nums.{decimal, id_read, is_hex, id_of_digits, id_number, decimal_text, id_text}
 use Rattle.forms.specs.NumLaws.{decimal-le}
 use Rattle.forms.specs.declared.nums.Number.{Number}
 use Rattle.forms.specs.declared.nums.Number.TheVariants.{Value, NoNumber}

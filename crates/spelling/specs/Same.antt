@@ -1,8 +1,8 @@
 -- THEOREM `same_bytes`. Document 02: "Two readable lines are the same form with equal members in order exactly if they come out as the same bytes". A line's
 -- members are what it is read as: its form, and the words of the form's lists.
-use Rattle.std.specs.Prelude.{ℕ, ◌≤◌, ◌≡◌, refl, List, [], ◌∷◌, ◌++◌}
+use Rattle.std.specs.Prelude.{ℕ, ◌≡◌, List, ◌∷◌}
 use Rattle.std.proofs.Math.Path.{sym, ap}
-use Rattle.std.proofs.Common.{ap₂, ◌∙◌, subst}
+use Rattle.std.proofs.Common.{◌∙◌, subst}
 use Rattle.std.proofs.Math.Bool.{true}
 use Rattle.forms.specs.Text.{Members, Line}
 use Rattle.forms.specs.TextLaws.{line-once}

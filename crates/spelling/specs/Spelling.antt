@@ -1,6 +1,6 @@
 -- The single spelling of a form. Document 02: "one space between members and no other, decimal and lower-case hexadecimal without leading zeros, 0 for
 -- zero."
-use Rattle.std.specs.Prelude.{ℕ, ◌+◌, ◌≡◌, refl, Bool, true, false, List, [], ◌∷◌, ◌++◌, eqb, leb}
+use Rattle.std.specs.Prelude.{ℕ, ◌+◌, ◌≡◌, refl, Bool, true, false, List, [], ◌∷◌, ◌++◌, eqb}
 use Rattle.words.specs.Lists.{pick}
 use Rattle.forms.specs.Text.{Members, none, word, sub, within, is_word}
 

@@ -2,12 +2,12 @@
 -- themselves a line of the form with tidied members (`line-tidied`).
 use Rattle.std.specs.Prelude.{ℕ, zero, suc, ◌+◌, ◌<◌, ◌≤◌, ◌≡◌, Bool, List, [], ◌∷◌, ◌++◌, length, eqb}
 use Rattle.std.proofs.Math.Path.{refl, ap, ap₂}
-use Rattle.std.proofs.Common.{sym, ◌∙◌, subst, append_assoc, append-nil, arith, length-append, eqb-true, ne_eqb}
+use Rattle.std.proofs.Common.{sym, ◌∙◌, append_assoc, append-nil, arith, length-append, eqb-true, ne_eqb}
 use Rattle.std.proofs.Math.Bool.{true, false}
 use Rattle.std.proofs.lemmas.Bool.{eqb-false}
 use Rattle.words.specs.Lists.{pick}
 use Rattle.forms.specs.Text.{Members, none, word, sub, is_word, All, Stops, IsWord, spaces, Gap, Spells, Line}
-use Rattle.forms.specs.TextLaws.{by_bool, true-false, word-space, word-open, word-close, reads_of, reads-stops}
+use Rattle.forms.specs.TextLaws.{by_bool, word-space, word-open, word-close, reads_of, reads-stops}
 use Rattle.spelling.specs.Spelling.{lower, lowered, plain, tidied, gap, text, spelled, goes, leads, owes, put, joins, squeezed}
 use Rattle.spelling.specs.WordLaws.{plain_word, plain-twice}
 

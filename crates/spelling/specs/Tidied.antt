@@ -1,6 +1,6 @@
 -- A line of a file, tidied: document 02, "reads such a file and writes each form in a single spelling .. Unreadable lines and line ends are copied unchanged".
 -- Readable is what poolrun reads, whose lists have room for 14,336 words.
-use Rattle.std.specs.Prelude.{ℕ, suc, ◌+◌, ◌≤◌, ◌<◌, ◌≡◌, Bool, length, get_or, drop, eqb}
+use Rattle.std.specs.Prelude.{ℕ, ◌+◌, ◌≤◌, ◌<◌, ◌≡◌, Bool, length, get_or, drop, eqb}
 use Rattle.std.proofs.Math.Path.{refl, sym, subst}
 use Rattle.std.proofs.Common.{ap, ap₂, ◌∙◌, arith, add-one, drop_of_length-le, drop-cons, eq-eqb, ne_eqb}
 use Rattle.std.proofs.Math.Bool.{true, false}
@@ -9,15 +9,15 @@ use Rattle.words.specs.Lists.{pick}
 use Rattle.forms.specs.declared.text.Past.{Past}
 use Rattle.forms.specs.declared.text.Past.TheVariants.{At, Not}
 use Rattle.forms.specs.Text.{Members, Line, Opened, is_word}
-use Rattle.forms.specs.TextLaws.{true-false, by_bool, line-once}
+use Rattle.forms.specs.TextLaws.{true-false, line-once}
 use Rattle.forms.specs.Nums.{Prints}
 use Rattle.replies.specs.ReplyLaws.{prints-none, prints-then, Printing, printing-none}
 use Rattle.lines.specs.declared.read.Form.{Form}
-use Rattle.lines.specs.Forms.{is_read, form_of, one_of, two_of, ReadAt}
+use Rattle.lines.specs.Forms.{is_read, form_of, ReadAt}
 use Rattle.spelling.specs.declared.Place.{Place}
 use Rattle.spelling.specs.Spelling.{tidied, text, spelled, lower, goes, leads, owes, put, joins, squeezed}
 use Rattle.spelling.specs.SqueezeLaws.{due, due-le, none-due, put-length, at-space, at-lead, at_byte, not-longer, line-tidied, tidied-twice, squeezed-line}
-use Rattle.spelling.specs.FormBack.{Out, out_of, read_back}
+use Rattle.spelling.specs.FormBack.{Out, read_back}
 
 -- the line l comes out as t
 pub data Tidied (l : List ℕ) : List ℕ → Type 0 where

@@ -1,13 +1,13 @@
 -- Laws of a word's spelling: it is a word again, spelling it twice is spelling it once, and it is read as the same number, id or keyword.
-use Rattle.std.specs.Prelude.{ℕ, zero, suc, ◌+◌, ◌*◌, ◌<◌, ◌≤◌, ◌≡◌, refl, Bool, true, false, List, [], ◌∷◌, ◌++◌, length, eqb, leb, ltb}
+use Rattle.std.specs.Prelude.{ℕ, suc, ◌+◌, ◌*◌, ◌<◌, ◌≤◌, ◌≡◌, refl, Bool, true, false, List, [], ◌∷◌, length, eqb, leb, ltb}
 use Rattle.std.proofs.Common.{sym, ap₂, ◌∙◌, subst, arith, eqb-true, ne_eqb, le-leb, lt-ltb}
 use Rattle.std.proofs.Math.Path.{ap}
 use Rattle.std.proofs.lemmas.Bool.{eqb-false, lt-leb}
 use Rattle.words.specs.Lists.{pick}
 use Rattle.forms.specs.Text.{within, is_word, All, IsWord}
-use Rattle.forms.specs.TextLaws.{by_bool, true-false, word-2}
+use Rattle.forms.specs.TextLaws.{by_bool, word-2}
 use Rattle.forms.specs.declared.nums.Number.TheVariants.{Value, NoNumber}
-use Rattle.forms.specs.Nums.{digit_of, is_digits, more, number, decimal, is_hex, id_read}
+use Rattle.forms.specs.Nums.{digit_of, is_digits, more, decimal, is_hex, id_read}
 use Rattle.forms.specs.NumLaws.{within_low, digit-2, digit-3, decimal-zero, id-spelling, id-zero, hex-in}
 use Rattle.spelling.specs.Spelling.{lower, lowered, plain}
 
