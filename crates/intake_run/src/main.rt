@@ -5,6 +5,7 @@
 ghost use Rattle.std.specs.Prelude.{◌+◌, ◌<◌};
 
 use intake::{gunthyd_intake_put, gunthyd_intake_start, gunthyd_intake_turn};
+use std::io;
 
 // An empty line whose head and tail stand at `count`.
 fn begin_at(queue: &mut [u64], line: usize, count: u64)
@@ -19,60 +20,60 @@ fn begin_at(queue: &mut [u64], line: usize, count: u64)
 }
 
 // Stores n handles in a line, counted up from `first`.
-fn puts(queue: &mut [u64], line: u64, first: u64, n: u64)
+fn puts(rt: &impl Print, queue: &mut [u64], line: u64, first: u64, n: u64) -> io::Result<()>
     requires { first + n < 1000 }
 {
-    io::write_all(1, b"put");
+    print!(rt; "put")?;
     let mut j = 0;
     while j < n {
-        io::write_all(1, b" ");
-        io::print_decimal(1, gunthyd_intake_put(queue, line, first + j));
+        let said = gunthyd_intake_put(queue, line, first + j);
+        print!(rt; " {said}")?;
         j += 1;
     }
-    io::write_all(1, b"\n");
+    println!(rt; "")
 }
 
-fn show(answer: &[u64]) {
+fn show(rt: &impl Print, answer: &[u64]) -> io::Result<()> {
     if answer.len() < 2 {
-        return;
+        return Ok(());
     }
-    io::print_decimal(1, answer[1]);
-    io::write_all(1, b":");
-    io::print_decimal(1, answer[0]);
+    let handle = answer[0];
+    let line = answer[1];
+    print!(rt; "{line}:{handle}")
 }
 
-fn one_turn(queue: &mut [u64], answer: &mut [u64]) {
-    io::write_all(1, b" ");
+fn one_turn(rt: &impl Print, queue: &mut [u64], answer: &mut [u64]) -> io::Result<()> {
+    print!(rt; " ")?;
     if gunthyd_intake_turn(queue, answer) == 1 {
-        show(answer);
+        show(rt, answer)
     } else {
-        io::write_all(1, b"none");
+        print!(rt; "none")
     }
 }
 
-fn turns(queue: &mut [u64], answer: &mut [u64], n: u64) {
-    io::write_all(1, b"turn");
+fn turns(rt: &impl Print, queue: &mut [u64], answer: &mut [u64], n: u64) -> io::Result<()> {
+    print!(rt; "turn")?;
     let mut j = 0;
     while j < n {
-        one_turn(queue, answer);
+        one_turn(rt, queue, answer)?;
         j += 1;
     }
-    io::write_all(1, b"\n");
+    println!(rt; "")
 }
 
 // Line 3 stands two handles before the wrap, line 255 one.
-fn over_the_wrap(queue: &mut [u64], answer: &mut [u64]) {
+fn over_the_wrap(rt: &impl Print, queue: &mut [u64], answer: &mut [u64]) -> io::Result<()> {
     begin_at(queue, 3, 4294967294);
     begin_at(queue, 255, 4294967295);
-    puts(queue, 3, 10, 17);
-    puts(queue, 255, 90, 2);
-    puts(queue, 256, 99, 1);
-    turns(queue, answer, 20);
+    puts(rt, queue, 3, 10, 17)?;
+    puts(rt, queue, 255, 90, 2)?;
+    puts(rt, queue, 256, 99, 1)?;
+    turns(rt, queue, answer, 20)
 }
 
-fn main() {
+fn main(rt: HostRuntime) -> io::Result<()> {
     let mut queue = [0u64; 4609];
     let mut answer = [0u64; 2];
     gunthyd_intake_start(&mut queue);
-    over_the_wrap(&mut queue, &mut answer);
+    over_the_wrap(&rt, &mut queue, &mut answer)
 }
