@@ -4,6 +4,7 @@
 
 use family_pools::{arrive, enter, nothing, show};
 use pool_types::Counts;
+use std::io;
 
 // Transactions 1 to n in a row, each spending what the one before it makes.
 fn in_a_row(entries: &mut [u64], boxes: &mut [u64], n: u64) -> Counts {
@@ -19,26 +20,26 @@ fn in_a_row(entries: &mut [u64], boxes: &mut [u64], n: u64) -> Counts {
 }
 
 // The first and the last that were credited, the first and the last that were not, and the newcomer.
-fn show_ends(entries: &[u64], boxes: &[u64], counts: Counts) {
-    show(entries, boxes, counts, 0);
-    show(entries, boxes, counts, 499);
-    show(entries, boxes, counts, 500);
-    show(entries, boxes, counts, 599);
-    show(entries, boxes, counts, 600);
-    io::write_all(1, b"\n");
+fn show_ends(rt: &impl Print, entries: &[u64], boxes: &[u64], counts: Counts) -> io::Result<()> {
+    show(rt, entries, boxes, counts, 0)?;
+    show(rt, entries, boxes, counts, 499)?;
+    show(rt, entries, boxes, counts, 500)?;
+    show(rt, entries, boxes, counts, 599)?;
+    show(rt, entries, boxes, counts, 600)?;
+    println!(rt; "")
 }
 
 // 600 of them, and newcomer 601 behind: the walk reaches 600 down to 101.
-fn ancestors(entries: &mut [u64], boxes: &mut [u64]) {
+fn ancestors(rt: &impl Print, entries: &mut [u64], boxes: &mut [u64]) -> io::Result<()> {
     let row = in_a_row(entries, boxes, 600);
     let all = arrive(entries, boxes, row, 601, &[0, 0, 1, 600], &[0, 0, 1, 601]);
-    io::write_all(1, b"ancestors");
-    show_ends(entries, boxes, all);
+    print!(rt; "ancestors")?;
+    show_ends(rt, entries, boxes, all)
 }
 
 // Room for 601 entries and their records.
-fn main() {
+fn main(rt: HostRuntime) -> io::Result<()> {
     let mut entries = [0u64; 10820];
     let mut boxes = [0u64; 19541];
-    ancestors(&mut entries, &mut boxes);
+    ancestors(&rt, &mut entries, &mut boxes)
 }

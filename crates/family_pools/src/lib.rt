@@ -7,6 +7,7 @@ use entries::fields::{PoolEntry, ValidationCost, id_at, weight_at};
 use family::propagate_family_weight;
 use pool::{fits, insert, room_for};
 use pool_types::Counts;
+use std::io;
 use words::ids::Id;
 
 fn id_of(n: u64) -> Id {
@@ -87,25 +88,29 @@ pub fn arrive(
 
 // ---- what is printed
 
-pub fn show(entries: &[u64], boxes: &[u64], counts: Counts, rank: usize) {
+pub fn show(
+    rt: &impl Print,
+    entries: &[u64],
+    boxes: &[u64],
+    counts: Counts,
+    rank: usize,
+) -> io::Result<()> {
     if !fits(entries, boxes, counts) {
-        return;
+        return Ok(());
     }
     if counts.pooled <= rank {
-        return;
+        return Ok(());
     }
-    let id = id_at(entries, rank);
-    io::write_all(1, b" ");
-    io::print_decimal(1, id.d);
-    io::write_all(1, b":");
-    io::print_decimal(1, weight_at(entries, rank));
+    let id = id_at(entries, rank).d;
+    let weight = weight_at(entries, rank);
+    print!(rt; " {id}:{weight}")
 }
 
-pub fn show_all(entries: &[u64], boxes: &[u64], counts: Counts) {
+pub fn show_all(rt: &impl Print, entries: &[u64], boxes: &[u64], counts: Counts) -> io::Result<()> {
     let mut rank = 0;
     while rank < counts.pooled {
-        show(entries, boxes, counts, rank);
+        show(rt, entries, boxes, counts, rank)?;
         rank += 1;
     }
-    io::write_all(1, b"\n");
+    println!(rt; "")
 }

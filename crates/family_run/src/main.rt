@@ -4,11 +4,12 @@
 
 use family_pools::{arrive, enter, nothing, show_all};
 use pool_types::Counts;
+use std::io;
 
 // ---- the pools: transactions of base 10, and newcomer 9
 
 // 1 makes box 11, which 2 spends; 2 makes box 12, which 9 spends.
-fn chain(entries: &mut [u64], boxes: &mut [u64]) {
+fn chain(rt: &impl Print, entries: &mut [u64], boxes: &mut [u64]) -> io::Result<()> {
     let one = enter(
         entries,
         boxes,
@@ -20,8 +21,8 @@ fn chain(entries: &mut [u64], boxes: &mut [u64]) {
     );
     let two = enter(entries, boxes, one, 2, 10, &[0, 0, 0, 11], &[0, 0, 0, 12]);
     let all = arrive(entries, boxes, two, 9, &[0, 0, 0, 12], &[0, 0, 0, 19]);
-    io::write_all(1, b"chain");
-    show_all(entries, boxes, all);
+    print!(rt; "chain")?;
+    show_all(rt, entries, boxes, all)
 }
 
 // 2 and 3 spend an output of 1 each ..
@@ -40,7 +41,7 @@ fn two_sides(entries: &mut [u64], boxes: &mut [u64]) -> Counts {
 }
 
 // .. and 9 spends an output of both: two chains end at 1.
-fn diamond(entries: &mut [u64], boxes: &mut [u64]) {
+fn diamond(rt: &impl Print, entries: &mut [u64], boxes: &mut [u64]) -> io::Result<()> {
     let sides = two_sides(entries, boxes);
     let all = arrive(
         entries,
@@ -50,12 +51,12 @@ fn diamond(entries: &mut [u64], boxes: &mut [u64]) {
         &[0, 0, 0, 12, 0, 0, 0, 13],
         &[0, 0, 0, 19],
     );
-    io::write_all(1, b"diamond");
-    show_all(entries, boxes, all);
+    print!(rt; "diamond")?;
+    show_all(rt, entries, boxes, all)
 }
 
 // 9 spends one output of 1 twice.
-fn repeated(entries: &mut [u64], boxes: &mut [u64]) {
+fn repeated(rt: &impl Print, entries: &mut [u64], boxes: &mut [u64]) -> io::Result<()> {
     let one = enter(
         entries,
         boxes,
@@ -73,12 +74,12 @@ fn repeated(entries: &mut [u64], boxes: &mut [u64]) {
         &[0, 0, 0, 11, 0, 0, 0, 11],
         &[0, 0, 0, 19],
     );
-    io::write_all(1, b"repeated");
-    show_all(entries, boxes, all);
+    print!(rt; "repeated")?;
+    show_all(rt, entries, boxes, all)
 }
 
 // 1 spends what 9 makes, and 9 what 1 makes: 500 visits, by turns.
-fn cycle(entries: &mut [u64], boxes: &mut [u64]) {
+fn cycle(rt: &impl Print, entries: &mut [u64], boxes: &mut [u64]) -> io::Result<()> {
     let one = enter(
         entries,
         boxes,
@@ -89,12 +90,12 @@ fn cycle(entries: &mut [u64], boxes: &mut [u64]) {
         &[0, 0, 0, 11],
     );
     let all = arrive(entries, boxes, one, 9, &[0, 0, 0, 11], &[0, 0, 0, 12]);
-    io::write_all(1, b"cycle");
-    show_all(entries, boxes, all);
+    print!(rt; "cycle")?;
+    show_all(rt, entries, boxes, all)
 }
 
 // 9 spends its own output: 500 visits of itself.
-fn own(entries: &mut [u64], boxes: &mut [u64]) {
+fn own(rt: &impl Print, entries: &mut [u64], boxes: &mut [u64]) -> io::Result<()> {
     let one = enter(
         entries,
         boxes,
@@ -105,12 +106,12 @@ fn own(entries: &mut [u64], boxes: &mut [u64]) {
         &[0, 0, 0, 8],
     );
     let all = arrive(entries, boxes, one, 9, &[0, 0, 0, 11], &[0, 0, 0, 11]);
-    io::write_all(1, b"own");
-    show_all(entries, boxes, all);
+    print!(rt; "own")?;
+    show_all(rt, entries, boxes, all)
 }
 
 // 1 weighs 2^64−2 and is credited 1 twice.
-fn capped(entries: &mut [u64], boxes: &mut [u64]) {
+fn capped(rt: &impl Print, entries: &mut [u64], boxes: &mut [u64]) -> io::Result<()> {
     let one = enter(
         entries,
         boxes,
@@ -128,26 +129,26 @@ fn capped(entries: &mut [u64], boxes: &mut [u64]) {
         &[0, 0, 0, 11, 0, 0, 0, 11],
         &[0, 0, 0, 19],
     );
-    io::write_all(1, b"capped");
-    show_all(entries, boxes, all);
+    print!(rt; "capped")?;
+    show_all(rt, entries, boxes, all)
 }
 
-fn small(entries: &mut [u64], boxes: &mut [u64]) {
-    chain(entries, boxes);
-    diamond(entries, boxes);
-    repeated(entries, boxes);
+fn small(rt: &impl Print, entries: &mut [u64], boxes: &mut [u64]) -> io::Result<()> {
+    chain(rt, entries, boxes)?;
+    diamond(rt, entries, boxes)?;
+    repeated(rt, entries, boxes)
 }
 
-fn large(entries: &mut [u64], boxes: &mut [u64]) {
-    cycle(entries, boxes);
-    own(entries, boxes);
-    capped(entries, boxes);
+fn large(rt: &impl Print, entries: &mut [u64], boxes: &mut [u64]) -> io::Result<()> {
+    cycle(rt, entries, boxes)?;
+    own(rt, entries, boxes)?;
+    capped(rt, entries, boxes)
 }
 
 // One store for all of them, with room for 5 entries and 20 records.
-fn main() {
+fn main(rt: HostRuntime) -> io::Result<()> {
     let mut entries = [0u64; 92];
     let mut boxes = [0u64; 327];
-    small(&mut entries, &mut boxes);
-    large(&mut entries, &mut boxes);
+    small(&rt, &mut entries, &mut boxes)?;
+    large(&rt, &mut entries, &mut boxes)
 }

@@ -12,7 +12,7 @@ use Rattle.spelling.specs.File as F
 use Rattle.spelling.specs.File.{File, Clean, clean-tidied, read_alike, input_of, Cut, end, piece}
 use Rattle.poolrun.specs.Input as I
 use Rattle.poolrun.specs.Input.{State, add_byte, added, Comes, Answered, Step, adds, ends, Fed, none, more, ended, Finished, between, last, Turn, some, Served, unread, reads}
-use Rattle.poolrun.specs.Poolrun.{fed-join}
+use Rattle.poolrun.specs.Poolrun.{fed-join, step-over, fed-over}
 
 -- ---- the bytes of a line
 
@@ -108,7 +108,7 @@ module _ (s : State) (new : s.line ≡ []) where
 -- ---- a whole file
 
 -- it is fed, and then the input ends
-record Runs (f : List ℕ) (s : State) (t : List ℕ) (s' : State) : Type 0 where
+pub record Runs (f : List ℕ) (s : State) (t : List ℕ) (s' : State) : Type 0 where
   pub mid : State
   pub one : List ℕ
   pub two : List ℕ
@@ -134,7 +134,7 @@ line-alike {l} {v} {rest = rest} {s = s} c h new ih a (more {ts = ts} {s' = s2} 
           ∙ ap (λ (w : List ℕ). (t ++ (10 ∷ [])) ++ w) n.is ∙ sym (append_assoc (t ++ (10 ∷ [])) n.one n.two);
     }
 
-file-alike : {f u t : List ℕ} {s s' : State} → File f u → s.line ≡ [] → Runs f s t s' → Runs u s t s'
+pub file-alike : {f u t : List ℕ} {s s' : State} → File f u → s.line ≡ [] → Runs f s t s' → Runs u s t s'
 file-alike {f} {u} {t} {s} {s'} (F.last c h) new r =
     let q = fed-clean f c r.fed in
     record {
@@ -151,16 +151,7 @@ file-alike (F.line {l} c h g) new r =
 
 -- ---- reads
 
-step-over : {b : ℕ} {t : List ℕ} {s s' : State} → Step b s t s' → s'.over ≡ s.over
-unfolding added
-step-over (adds h) = refl
-step-over (ends q x) = x.over
-
-fed-over : {bs t : List ℕ} {s s' : State} → Fed bs s t s' → s'.over ≡ s.over
-fed-over none = refl
-fed-over (more x f) = fed-over f ∙ step-over x
-
-finished-over : {t : List ℕ} {s s' : State} → Finished s t s' → s'.over ≡ true
+pub finished-over : {t : List ℕ} {s s' : State} → Finished s t s' → s'.over ≡ true
 unfolding ended
 finished-over (between h) = refl
 finished-over (last h x) = refl
@@ -171,7 +162,7 @@ unfolding input_of
 stopped e unread = (refl, refl, refl)
 stopped e (reads h x f) = true-false e h
 
-served-runs : {rs : List (List ℕ)} {t : List ℕ} {s s' : State} → Served rs s t s' → s.over ≡ false → s'.over ≡ true → Runs (input_of rs) s t s'
+pub served-runs : {rs : List (List ℕ)} {t : List ℕ} {s s' : State} → Served rs s t s' → s.over ≡ false → s'.over ≡ true → Runs (input_of rs) s t s'
 unfolding input_of
 served-runs unread o e = true-false e o
 served-runs {s = s} {s' = s'} (reads {t = t} {ts} {s' = s2} h (I.over x) f) o e =

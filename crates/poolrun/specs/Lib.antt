@@ -3,3 +3,4 @@ pub mod Poolrun
 pub mod History
 pub mod Demand
 pub mod Alike
+pub mod Whole

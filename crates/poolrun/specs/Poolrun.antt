@@ -1,7 +1,7 @@
 -- What the functions of poolrun's loop promise, over the definitions of Input, and the laws that their proofs cite.
-use Rattle.std.specs.Prelude.{ℕ, suc, ◌+◌, ◌-◌, ◌≤◌, ◌<◌, min, ◌≡◌, refl, Bool, true, false, List, [], ◌∷◌, ◌++◌, take, drop, set, get_or, leb}
+use Rattle.std.specs.Prelude.{ℕ, suc, ◌+◌, ◌-◌, ◌≤◌, ◌<◌, min, ◌≡◌, refl, Bool, true, false, List, [], ◌∷◌, ◌++◌, take, drop, set, get_or, leb, None}
 use Rattle.std.proofs.Math.Path.{sym}
-use Rattle.std.proofs.Common.{ap, subst, ◌∙◌, true≢false, append_assoc, add-one, arith, length-append, length-drop, length-set, take_all, take-suc, take-suc-set, take_at, lt-ltb, le-ltb, leb-true, leb-false}
+use Rattle.std.proofs.Common.{ap, subst, ◌∙◌, true≢false, append_assoc, append-nil, add-one, arith, length-append, length-drop, length-set, take_all, take-suc, take-suc-set, take_at, lt-ltb, le-ltb, leb-true, leb-false}
 use Rattle.std.proofs.Math.ListN.{length, length-take}
 use Rattle.std.proofs.lemmas.List.{take-append-le}
 use Rattle.words.specs.Lists.{yes, no}
@@ -16,6 +16,10 @@ use Rattle.console.specs.After.{Holds, After}
 use Rattle.console.specs.declared.Kept.{Kept}
 use Rattle.console.specs.declared.Told.{Told}
 use Rattle.poolrun.specs.declared.Progress.{Progress}
+use Rattle.spelling.specs.File.{input_of}
+use Rattle.std.specs.Io.KnownBytes.{IsAtEnd}
+use Rattle.streams.specs.Laws.{written-none, written-then, taken-none, taken-then}
+use Rattle.streams.specs.Streams.{Stand, Written, Taken, Brought}
 use Rattle.poolrun.specs.Input.{Words, State, state_of, words_of, at_start, add_byte, added, Comes, Leaves, Answered, Step, adds, ends, Fed, none, more, ended, Finished, between, last, Turn, over, some, Served, unread, reads}
 
 -- ---- sizes
@@ -65,29 +69,34 @@ pub record Whole (l : List ℕ) : Type 0 where
   pub text : List ℕ
   pub is : l ≡ text ++ (10 ∷ [])
 
--- what was printed stands at the front of the buffer `out`
-pub record Ends (s s' : State) (out : List ℕ) : Type 0 where
+-- what was printed stands at the front of the buffer `out`; o and o' are where the output stands before and behind it
+pub record Ends (s s' : State) (out : List ℕ) (o o' : Stand) : Type 0 where
   pub text : List ℕ
   pub is : Answered s text s'
   pub handed : take (length (text ++ (10 ∷ []))) out ≡ text ++ (10 ∷ [])
+  pub written : Written o o' (text ++ (10 ∷ []))
 
-pub record Steps (b : ℕ) (s s' : State) (out : List ℕ) : Type 0 where
+pub record Steps (b : ℕ) (s s' : State) (out : List ℕ) (o o' : Stand) : Type 0 where
   pub text : List ℕ
   pub is : Step b s text s'
   pub handed : take (length text) out ≡ text
+  pub written : Written o o' text
 
-pub record Finishes (s s' : State) (out : List ℕ) : Type 0 where
+pub record Finishes (s s' : State) (out : List ℕ) (o o' : Stand) : Type 0 where
   pub text : List ℕ
   pub is : Finished s text s'
   pub handed : take (length text) out ≡ text
+  pub written : Written o o' text
 
-pub record Feeds (bytes : List ℕ) (s s' : State) : Type 0 where
+pub record Feeds (bytes : List ℕ) (s s' : State) (o o' : Stand) : Type 0 where
   pub text : List ℕ
   pub is : Fed bytes s text s'
+  pub written : Written o o' text
 
-pub record Turns (bytes : List ℕ) (s s' : State) : Type 0 where
+pub record Turns (bytes : List ℕ) (s s' : State) (o o' : Stand) : Type 0 where
   pub text : List ℕ
   pub is : Turn bytes s text s'
+  pub written : Written o o' text
 
 pub record Closed (p r : Progress) : Type 0 where
   pub len : r.len ≡ p.len
@@ -95,18 +104,24 @@ pub record Closed (p r : Progress) : Type 0 where
   pub over : r.over ≡ true
   pub kept : r.kept ≡ p.kept
 
--- reads go on while the input has not ended, or up to 2^64−1 of them; `left` are not made yet
-pub record Serving (s s' : State) (left : ℕ) : Type 0 where
+-- reads go on while the input has not ended, or up to 2^64−1 of them; `left` are not made yet. i and i' are where the input stands
+pub record Serving (s s' : State) (left : ℕ) (i i' o o' : Stand) : Type 0 where
   pub brought : List (List ℕ)
   pub text : List ℕ
   pub is : Served brought s text s'
   pub count : length brought + left ≡ cap
+  pub taken : Taken i i' (input_of brought)
+  pub written : Written o o' text
 
-pub record Serves (s s' : State) : Type 0 where
+-- each read has so much room
+pub record Serves (room : ℕ) (s s' : State) (i i' o o' : Stand) : Type 0 where
   pub brought : List (List ℕ)
   pub text : List ℕ
   pub is : Served brought s text s'
   pub stops : s'.over ≡ false → length brought ≡ cap
+  pub taken : Taken i i' (input_of brought)
+  pub ends : s'.over ≡ true → i'.error ≡ None → 0 < room → IsAtEnd i'.known
+  pub written : Written o o' text
 
 -- ---- a byte of a line
 
@@ -174,9 +189,9 @@ module _ (l : List ℕ) (m : ℕ) {e b k q a e' b' k' q' a' : List ℕ} {n : ℕ
   pub newline-fits : t.len < length (o ++ drop 32768 out)
   newline-fits = omega (arith, text-fits _ _ _ _ _ x.leaves same, length-append o (drop 32768 out), length-drop 32768 out)
 
-  pub ends_is : (out' : List ℕ) → m ≡ min p.len (length l) → n ≡ capped (p.number + 1) → out' ≡ set (o ++ drop 32768 out) t.len 10
-      → Ends (state_of l e b k q a p) (state_of l e' b' k' q' a' (record { kept = t.kept; len = 0; number = n; over = p.over })) out'
-  ends_is out' qm qn qo =
+  pub ends_is : {w w' : Stand} (out' : List ℕ) → m ≡ min p.len (length l) → n ≡ capped (p.number + 1) → out' ≡ set (o ++ drop 32768 out) t.len 10 → Written w w' (take (t.len + 1) out')
+      → Ends (state_of l e b k q a p) (state_of l e' b' k' q' a' (record { kept = t.kept; len = 0; number = n; over = p.over })) out' w w'
+  ends_is {w} {w'} out' qm qn qo v =
       record {
         text = x.to.text;
         is =
@@ -191,9 +206,16 @@ module _ (l : List ℕ) (m : ℕ) {e b k q a e' b' k' q' a' : List ℕ} {n : ℕ
               out = o;
               leaves = subst (λ (i : ℕ). Leaves (words_of e' b' k' q' a') (take 32768 out) o (record { kept = t.kept; len = i }) x.to) long x.leaves;
             };
-        handed = text-handed _ _ _ _ _ x.leaves same (drop 32768 out) out' (omega (arith, length-drop 32768 out)) qo;
+        handed = handed out' qo;
+        written = subst (Written w w') (ap (λ (i : ℕ). take i out') all ∙ handed out' qo) v;
       }
     where
+      handed : (z : List ℕ) → z ≡ set (o ++ drop 32768 out) t.len 10 → take (length (x.to.text ++ (10 ∷ []))) z ≡ x.to.text ++ (10 ∷ [])
+      handed z q = text-handed _ _ _ _ _ x.leaves same (drop 32768 out) z (omega (arith, length-drop 32768 out)) q
+
+      all : t.len + 1 ≡ length (x.to.text ++ (10 ∷ []))
+      all = omega (arith, length-append x.to.text (10 ∷ []), x.leaves.prints.ends)
+
       long : t.len ≡ length x.to.text
       long = omega (arith, x.leaves.prints.ends)
 
@@ -234,11 +256,11 @@ module _ (l l' e b k q a : List ℕ) (c : ℕ) (p r : Progress) (x : Adds l p c 
   unfolding added
   adds-is = rw (x.line, x.number, x.over, x.kept)
 
-  pub steps-adds : (c ≡ 10 → ⊥) → (out : List ℕ) → Steps c (state_of l e b k q a p) (state_of l' e b k q a r) out
-  steps-adds h out = record { text = []; is = rw adds-is (adds h); handed = refl }
+  pub steps-adds : {w : Stand} → (c ≡ 10 → ⊥) → (out : List ℕ) → Steps c (state_of l e b k q a p) (state_of l' e b k q a r) out w w
+  steps-adds h out = record { text = []; is = rw adds-is (adds h); handed = refl; written = written-none }
 
-pub steps-ends : {s s' : State} {out : List ℕ} (c : ℕ) → c ≡ 10 → Ends s s' out → Steps c s s' out
-steps-ends c q x = record { text = x.text ++ (10 ∷ []); is = ends q x.is; handed = x.handed }
+pub steps-ends : {s s' : State} {out : List ℕ} {w w' : Stand} (c : ℕ) → c ≡ 10 → Ends s s' out w w' → Steps c s s' out w w'
+steps-ends c q x = record { text = x.text ++ (10 ∷ []); is = ends q x.is; handed = x.handed; written = x.written }
 
 -- ---- all bytes
 
@@ -246,14 +268,19 @@ pub fed-join : {cs bs t u : List ℕ} {s s' s'' : State} → Fed cs s t s' → F
 fed-join none g = g
 fed-join (more {b} {bs} {t} {ts} x f) g = rw (append_assoc t ts _) (more x (fed-join f g))
 
-pub feeds-none : {s : State} → Feeds [] s s
-feeds-none = record { text = []; is = none }
+pub feeds-none : {s : State} {o : Stand} → Feeds [] s s o o
+feeds-none = record { text = []; is = none; written = written-none }
 
-pub feeds-more : {s s' s'' : State} {out : List ℕ} (l : List ℕ) (i : ℕ) → i < length l → Feeds (take i l) s s' → Steps (get_or l i 0) s' s'' out → Feeds (take (i + 1) l) s s''
-feeds-more l i h f x = record { text = f.text ++ (x.text ++ []); is = rw (add-one i, take-suc l i 0 h) (fed-join f.is (more x.is none)) }
+pub feeds-more : {s s' s'' : State} {o o' o'' : Stand} {out : List ℕ} (l : List ℕ) (i : ℕ) → i < length l → Feeds (take i l) s s' o o' → Steps (get_or l i 0) s' s'' out o' o'' → Feeds (take (i + 1) l) s s'' o o''
+feeds-more l i h f x =
+    record {
+      text = f.text ++ (x.text ++ []);
+      is = rw (add-one i, take-suc l i 0 h) (fed-join f.is (more x.is none));
+      written = written-then f.written (written-then x.written written-none);
+    }
 
-pub feeds-all : {s s' : State} (l : List ℕ) (i : ℕ) → length l ≤ i → Feeds (take i l) s s' → Feeds l s s'
-feeds-all {s} {s'} l i h f = subst (λ (bs : List ℕ). Feeds bs s s') (take_all i l h) f
+pub feeds-all : {s s' : State} {o o' : Stand} (l : List ℕ) (i : ℕ) → length l ≤ i → Feeds (take i l) s s' o o' → Feeds l s s' o o'
+feeds-all {s} {s'} {o} {o'} l i h f = subst (λ (bs : List ℕ). Feeds bs s s' o o') (take_all i l h) f
 
 -- ---- the end of the input
 
@@ -262,45 +289,100 @@ module _ (l e b k q a : List ℕ) (p r : Progress) (x : Closed p r) where
   unfolding ended
   closed_is = rw (x.len, x.number, x.over, x.kept)
 
-  pub finishes-between : (out : List ℕ) → p.len ≡ 0 → Finishes (state_of l e b k q a p) (state_of l e b k q a r) out
-  finishes-between out h = record { text = []; is = rw closed_is (between (ap (λ (n : ℕ). take n l) h)); handed = refl }
+  pub finishes-between : {w : Stand} (out : List ℕ) → p.len ≡ 0 → Finishes (state_of l e b k q a p) (state_of l e b k q a r) out w w
+  finishes-between out h = record { text = []; is = rw closed_is (between (ap (λ (n : ℕ). take n l) h)); handed = refl; written = written-none }
 
-  pub finishes-last : (s : State) (out : List ℕ) → (s.line ≡ [] → ⊥) → Ends s (state_of l e b k q a p) out → Finishes s (state_of l e b k q a r) out
-  finishes-last s out h y = record { text = y.text ++ (10 ∷ []); is = rw closed_is (last h y.is); handed = y.handed }
+  pub finishes-last : {w w' : Stand} (s : State) (out : List ℕ) → (s.line ≡ [] → ⊥) → Ends s (state_of l e b k q a p) out w w' → Finishes s (state_of l e b k q a r) out w w'
+  finishes-last s out h y = record { text = y.text ++ (10 ∷ []); is = rw closed_is (last h y.is); handed = y.handed; written = y.written }
 
 pub not-begun : (l : List ℕ) (n : ℕ) → length l ≡ 4097 → (n ≡ 0 → ⊥) → take n l ≡ [] → ⊥
 not-begun l n size h q = let z : length (take n l) ≡ 0 = ap length q in omega (arith, length-take n l, h)
 
+pub step-over : {b : ℕ} {t : List ℕ} {s s' : State} → Step b s t s' → s'.over ≡ s.over
+unfolding added
+step-over (adds h) = refl
+step-over (ends q x) = x.over
+
+pub fed-over : {bs t : List ℕ} {s s' : State} → Fed bs s t s' → s'.over ≡ s.over
+fed-over none = refl
+fed-over (more x f) = fed-over f ∙ step-over x
+
+-- only a read that brings nothing ends it
+turn-over : {bs t : List ℕ} {s s' : State} → Turn bs s t s' → s.over ≡ false → s'.over ≡ true → bs ≡ []
+turn-over (over x) h e = refl
+turn-over (some f) h e = absurd (true≢false (sym e ∙ fed-over f ∙ h))
+
 -- ---- reads
 
-pub turns-over : {s s' : State} {out : List ℕ} (l : List ℕ) → length l ≡ 0 → Finishes s s' out → Turns l s s'
-turns-over [] h x = record { text = x.text; is = over x.is }
+pub turns-over : {s s' : State} {o o' : Stand} {out : List ℕ} (l : List ℕ) → length l ≡ 0 → Finishes s s' out o o' → Turns l s s' o o'
+turns-over [] h x = record { text = x.text; is = over x.is; written = x.written }
 turns-over (b ∷ l) h x = absurd (omega arith)
 
-pub turns-some : {s s' : State} (l : List ℕ) → (length l ≡ 0 → ⊥) → Feeds l s s' → Turns l s s'
+pub turns-some : {s s' : State} {o o' : Stand} (l : List ℕ) → (length l ≡ 0 → ⊥) → Feeds l s s' o o' → Turns l s s' o o'
 turns-some [] h x = absurd (h refl)
-turns-some (b ∷ l) h x = record { text = x.text; is = some x.is }
+turns-some (b ∷ l) h x = record { text = x.text; is = some x.is; written = x.written }
 
 pub served-join : {cs bs : List (List ℕ)} {t u : List ℕ} {s s' s'' : State} → Served cs s t s' → Served bs s' u s'' → Served (cs ++ bs) s (t ++ u) s''
 served-join unread g = g
 served-join (reads {r} {rs} {t} {ts} h x f) g = rw (append_assoc t ts _) (reads h x (served-join f g))
 
-pub serving-none : (e b k p a : List ℕ) (h : Kept) → h ≡ nothing → Serving (at_start e b k p a) (record { line = []; number = 0; over = false; words = words_of e b k p a; kept = h }) cap
-serving-none e b k p a h q = rw q (record { brought = []; text = []; is = unread; count = omega arith })
+input-more : (rs : List (List ℕ)) (r : List ℕ) → input_of rs ++ r ≡ input_of (rs ++ (r ∷ []))
+unfolding input_of
+input-more [] r = sym (append-nil r)
+input-more (q ∷ rs) r = append_assoc q (input_of rs) r ∙ ap (λ (t : List ℕ). q ++ t) (input-more rs r)
+
+taken-start : {i : Stand} → Taken i i (input_of [])
+unfolding input_of
+taken-start = taken-none
+
+pub serving-none : {i o : Stand} (e b k p a : List ℕ) (h : Kept) → h ≡ nothing → Serving (at_start e b k p a) (record { line = []; number = 0; over = false; words = words_of e b k p a; kept = h }) cap i i o o
+serving-none e b k p a h q = rw q (record { brought = []; text = []; is = unread; count = omega arith; taken = taken-start; written = written-none })
 
 -- one read more
-module _ {s s' s'' : State} (bs : List ℕ) (n : ℕ) (y : Serving s s' n) (go : s'.over ≡ false) (x : Turns bs s' s'') where
+module _ {s s' s'' : State} {i i' i'' o o' o'' : Stand} (bs : List ℕ) (n room size : ℕ) (same : size ≡ room) (y : Serving s s' n i i' o o') (go : s'.over ≡ false) (g : Brought size i' i'' bs) (x : Turns bs s' s'' o' o'') where
   one_more : Served (y.brought ++ (bs ∷ [])) s (y.text ++ (x.text ++ [])) s''
   one_more = served-join y.is (reads go x.is unread)
 
-  pub serving-more : 0 < n → Serving s s'' (n - 1)
-  serving-more h = record { brought = y.brought ++ (bs ∷ []); text = y.text ++ (x.text ++ []); is = one_more; count = omega (arith, length-append y.brought (bs ∷ []), y.count) }
+  all-taken : Taken i i'' (input_of (y.brought ++ (bs ∷ [])))
+  all-taken = subst (Taken i i'') (input-more y.brought bs) (taken-then y.taken g.taken)
 
-  pub serves-over : s''.over ≡ true → Serves s s''
-  serves-over h = record { brought = y.brought ++ (bs ∷ []); text = y.text ++ (x.text ++ []); is = one_more; stops = λ z. absurd (true≢false (sym h ∙ z)) }
+  all-written : Written o o'' (y.text ++ (x.text ++ []))
+  all-written = written-then y.written (written-then x.written written-none)
 
-pub serves-cut : {s s' : State} (n : ℕ) → n ≡ 0 → Serving s s' n → Serves s s'
-serves-cut n h y = record { brought = y.brought; text = y.text; is = y.is; stops = λ z. omega (arith, y.count) }
+  pub serving-more : 0 < n → Serving s s'' (n - 1) i i'' o o''
+  serving-more h =
+      record {
+        brought = y.brought ++ (bs ∷ []);
+        text = y.text ++ (x.text ++ []);
+        is = one_more;
+        count = omega (arith, length-append y.brought (bs ∷ []), y.count);
+        taken = all-taken;
+        written = all-written;
+      }
+
+  pub serves-over : s''.over ≡ true → Serves room s s'' i i'' o o''
+  serves-over h =
+      record {
+        brought = y.brought ++ (bs ∷ []);
+        text = y.text ++ (x.text ++ []);
+        is = one_more;
+        stops = λ z. absurd (true≢false (sym h ∙ z));
+        taken = all-taken;
+        ends = λ z e k. g.ends e (omega (arith, same)) (turn-over x.is go h);
+        written = all-written;
+      }
+
+pub serves-cut : {s s' : State} {i i' o o' : Stand} (n room : ℕ) → n ≡ 0 → s'.over ≡ false → Serving s s' n i i' o o' → Serves room s s' i i' o o'
+serves-cut n room h e y =
+    record {
+      brought = y.brought;
+      text = y.text;
+      is = y.is;
+      stops = λ z. omega (arith, y.count);
+      taken = y.taken;
+      ends = λ z. absurd (true≢false (sym z ∙ e));
+      written = y.written;
+    }
 
 -- ---- the buffers are lent on
 

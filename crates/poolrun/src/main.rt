@@ -2,16 +2,20 @@
 // (docs/FORMS.md). What a line comes to is crate console's; here is the loop that cuts the input into lines.
 #![tactic(auto)]
 
-ghost use Rattle.std.specs.Prelude.{◌≡◌, ◌<◌, length, set};
+ghost use Rattle.std.specs.Prelude.{◌≡◌, ◌+◌, ◌<◌, length, set, take};
 ghost use Rattle.console.specs.After.{Holds};
-ghost use Rattle.io.specs.Counts.{IsPrefixLen};
 ghost use Rattle.poolrun.specs.Input.{state_of, words_of, at_start};
 ghost use Rattle.poolrun.specs.Poolrun.{Sized, Running, Room, Adds, Tells, Whole, Ends, Steps, Feeds, Finishes, Closed, Turns, Serves};
+ghost use Rattle.poolrun.specs.Whole.{PlaysInput};
+ghost use Rattle.streams.specs.Streams.{Written};
 
 use console::calls::call_of;
 use console::start::fresh;
 use console::{Kept, Told, tell};
 use lines::read::read_form;
+use std::io::{Read, Write};
+use std::{env, fs, io};
+use streams::{Input, Output, Sink, Source};
 use words::sums::{saturating_add, smaller};
 
 // What goes from byte to byte: what is held of the pool, how much of a line was read, and how many lines there were.
@@ -80,26 +84,27 @@ fn tell_line(
     )
 }
 
-// Hands a whole line to standard output. What arrives there no contract can say: `write_all` stops where the output takes no more, and the program
-// goes on.
-fn hand_over(line: &[u8])
+// Hands a whole line to the output.
+fn hand_over<O: Sink>(to: &mut O, line: &[u8])
     requires { Whole line.now }
+    ensures { Written (O.stand to.old) (O.stand to.new) line.now }
 {
-    io::write_all(1, line);
+    to.hand(line);
 }
 
-// The first `len` bytes, and a newline behind them, are handed to standard output.
-fn write_line(out: &mut [u8], len: usize)
+// The first `len` bytes, and a newline behind them, are handed to the output.
+fn write_line<O: Sink>(to: &mut O, out: &mut [u8], len: usize)
     requires { len < length out.old }
-    ensures { out.new ≡ set out.old len 10 }
+    ensures line { out.new ≡ set out.old len 10 }
+    ensures written { Written (O.stand to.old) (O.stand to.new) (take (len + 1) out.new) }
 {
     out[len] = 10;
     let n = len + 1;
-    hand_over(&out[..n]);
+    hand_over(to, &out[..n]);
 }
 
 // A line is whole: it stands at the front of `line`. It is answered, and the answer is written at once.
-fn end_line(
+fn end_line<O: Sink>(
     line: &[u8],
     entries: &mut [u64],
     boxes: &mut [u64],
@@ -110,10 +115,11 @@ fn end_line(
     first: &mut [u64],
     second: &mut [u64],
     out: &mut [u8],
+    to: &mut O,
     p: Progress,
 ) -> Progress
     requires { Running line.now entries.old boxes.old cache.old peers.old answer.old listing.old first.old second.old out.old p.kept }
-    ensures { Ends (state_of line.now entries.old boxes.old cache.old peers.old answer.old p) (state_of line.now entries.new boxes.new cache.new peers.new answer.new result) out.new }
+    ensures { Ends (state_of line.now entries.old boxes.old cache.old peers.old answer.old p) (state_of line.now entries.new boxes.new cache.new peers.new answer.new result) out.new (O.stand to.old) (O.stand to.new) }
 {
     let number = saturating_add(p.number, 1);
     let n = smaller(p.len, line.len());
@@ -135,7 +141,7 @@ fn end_line(
         number,
     );
     let after = told.kept;
-    write_line(out, told.len);
+    write_line(to, out, told.len);
     Progress {
         kept: after,
         len: 0,
@@ -145,7 +151,7 @@ fn end_line(
 }
 
 // The next byte of the input.
-fn step(
+fn step<O: Sink>(
     b: u8,
     line: &mut [u8],
     entries: &mut [u64],
@@ -157,10 +163,11 @@ fn step(
     first: &mut [u64],
     second: &mut [u64],
     out: &mut [u8],
+    to: &mut O,
     p: Progress,
 ) -> Progress
     requires { Running line.old entries.old boxes.old cache.old peers.old answer.old listing.old first.old second.old out.old p.kept }
-    ensures { Steps b (state_of line.old entries.old boxes.old cache.old peers.old answer.old p) (state_of line.new entries.new boxes.new cache.new peers.new answer.new result) out.new }
+    ensures { Steps b (state_of line.old entries.old boxes.old cache.old peers.old answer.old p) (state_of line.new entries.new boxes.new cache.new peers.new answer.new result) out.new (O.stand to.old) (O.stand to.new) }
 {
     if b != 10 {
         return add_byte(line, p, b);
@@ -176,12 +183,13 @@ fn step(
         first,
         second,
         out,
+        to,
         p,
     )
 }
 
 // The bytes that one read brought.
-fn feed(
+fn feed<O: Sink>(
     input: &[u8],
     line: &mut [u8],
     entries: &mut [u64],
@@ -193,16 +201,18 @@ fn feed(
     first: &mut [u64],
     second: &mut [u64],
     out: &mut [u8],
+    to: &mut O,
     begun: Progress,
 ) -> Progress
     requires { Running line.old entries.old boxes.old cache.old peers.old answer.old listing.old first.old second.old out.old begun.kept }
-    ensures { Feeds input.now (state_of line.old entries.old boxes.old cache.old peers.old answer.old begun) (state_of line.new entries.new boxes.new cache.new peers.new answer.new result) }
+    ensures { Feeds input.now (state_of line.old entries.old boxes.old cache.old peers.old answer.old begun) (state_of line.new entries.new boxes.new cache.new peers.new answer.new result) (O.stand to.old) (O.stand to.new) }
 {
     let mut p = begun;
     let mut i = 0;
     while i < input.len() {
         p = step(
-            input[i], line, entries, boxes, cache, peers, answer, listing, first, second, out, p,
+            input[i], line, entries, boxes, cache, peers, answer, listing, first, second, out, to,
+            p,
         );
         i += 1;
     }
@@ -222,7 +232,7 @@ fn ended(p: Progress) -> Progress
 }
 
 // The input has ended. The last line, which may lack its newline, is answered.
-fn finish(
+fn finish<O: Sink>(
     line: &[u8],
     entries: &mut [u64],
     boxes: &mut [u64],
@@ -233,22 +243,23 @@ fn finish(
     first: &mut [u64],
     second: &mut [u64],
     out: &mut [u8],
+    to: &mut O,
     p: Progress,
 ) -> Progress
     requires { Running line.now entries.old boxes.old cache.old peers.old answer.old listing.old first.old second.old out.old p.kept }
-    ensures { Finishes (state_of line.now entries.old boxes.old cache.old peers.old answer.old p) (state_of line.now entries.new boxes.new cache.new peers.new answer.new result) out.new }
+    ensures { Finishes (state_of line.now entries.old boxes.old cache.old peers.old answer.old p) (state_of line.now entries.new boxes.new cache.new peers.new answer.new result) out.new (O.stand to.old) (O.stand to.new) }
 {
     if p.len == 0 {
         return ended(p);
     }
     let last = end_line(
-        line, entries, boxes, cache, peers, answer, listing, first, second, out, p,
+        line, entries, boxes, cache, peers, answer, listing, first, second, out, to, p,
     );
     ended(last)
 }
 
 // What one read brought: nothing at the end of the input.
-fn turn(
+fn turn<O: Sink>(
     input: &[u8],
     line: &mut [u8],
     entries: &mut [u64],
@@ -260,10 +271,11 @@ fn turn(
     first: &mut [u64],
     second: &mut [u64],
     out: &mut [u8],
+    to: &mut O,
     p: Progress,
 ) -> Progress
     requires { Running line.old entries.old boxes.old cache.old peers.old answer.old listing.old first.old second.old out.old p.kept }
-    ensures { Turns input.now (state_of line.old entries.old boxes.old cache.old peers.old answer.old p) (state_of line.new entries.new boxes.new cache.new peers.new answer.new result) }
+    ensures { Turns input.now (state_of line.old entries.old boxes.old cache.old peers.old answer.old p) (state_of line.new entries.new boxes.new cache.new peers.new answer.new result) (O.stand to.old) (O.stand to.new) }
 {
     if input.len() == 0 {
         return finish(
@@ -277,25 +289,18 @@ fn turn(
             first,
             second,
             out,
+            to,
             p,
         );
     }
     feed(
-        input, line, entries, boxes, cache, peers, answer, listing, first, second, out, p,
+        input, line, entries, boxes, cache, peers, answer, listing, first, second, out, to, p,
     )
 }
 
-// One read, to the front of `input`. Which bytes it brings no contract can say; a read that fails brings none.
-fn read_some(fd: i32, input: &mut [u8]) -> usize
-    ensures { IsPrefixLen result input.new }
-{
-    let got = libc::read(fd, input);
-    io::count(got, &input[..])
-}
-
-// All that a file holds. Memory does not grow with it.
-fn serve(
-    fd: i32,
+// All that is read. Memory does not grow with it.
+fn serve<I: Source, O: Sink>(
+    from: &mut I,
     input: &mut [u8],
     line: &mut [u8],
     entries: &mut [u64],
@@ -307,9 +312,10 @@ fn serve(
     first: &mut [u64],
     second: &mut [u64],
     out: &mut [u8],
+    to: &mut O,
 ) -> Progress
     requires { Sized line.old entries.old boxes.old cache.old peers.old answer.old listing.old first.old second.old out.old }
-    ensures { Serves (at_start entries.old boxes.old cache.old peers.old answer.old) (state_of line.new entries.new boxes.new cache.new peers.new answer.new result) }
+    ensures { Serves (length input.old) (at_start entries.old boxes.old cache.old peers.old answer.old) (state_of line.new entries.new boxes.new cache.new peers.new answer.new result) (I.stand from.old) (I.stand from.new) (O.stand to.old) (O.stand to.new) }
 {
     let mut p = Progress {
         kept: fresh(),
@@ -320,7 +326,7 @@ fn serve(
     // a proved loop has to end, and nothing says that an input does
     let mut turns = u64::MAX;
     while turns > 0 {
-        let n = read_some(fd, input);
+        let n = from.read_some(input);
         p = turn(
             &input[..n],
             line,
@@ -333,6 +339,7 @@ fn serve(
             first,
             second,
             out,
+            to,
             p,
         );
         if p.over {
@@ -343,7 +350,10 @@ fn serve(
     p
 }
 
-fn run(fd: i32) {
+// Answers all that is read.
+fn run<I: Source, O: Sink>(from: &mut I, to: &mut O)
+    ensures { PlaysInput (I.stand from.old) (I.stand from.new) (O.stand to.old) (O.stand to.new) }
+{
     let mut entries = [0u64; 2306];
     let mut boxes = [0u64; 16642];
     let mut cache = [0u64; 8752];
@@ -356,7 +366,7 @@ fn run(fd: i32) {
     let mut input = [0u8; 8192];
     let mut line = [0u8; 4097];
     serve(
-        fd,
+        from,
         &mut input,
         &mut line,
         &mut entries,
@@ -368,21 +378,22 @@ fn run(fd: i32) {
         &mut first,
         &mut second,
         &mut out,
+        to,
     );
 }
 
-fn main() {
-    let mut path = io::buffer();
-    let length = os::arg(1, &mut path);
-    if os::errno() != 0 {
-        run(0);
-        return;
+// The same, and what failed.
+fn played<R: Read + Drop, W: Write + Drop>(from: R, to: W) -> io::Result<()> {
+    let mut input = Input::new(from);
+    let mut output = Output::new(to);
+    run(&mut input, &mut output);
+    input.end()?;
+    output.end()
+}
+
+fn main(rt: HostRuntime) -> io::Result<()> {
+    match env::args(&rt)?.nth(1) {
+        Some(path) => played(fs::open(&rt, path.as_str())?, rt.stdout()),
+        None => played(rt.stdin(), rt.stdout()),
     }
-    let fd = os::open_read(&path[..length]);
-    if fd < 0 {
-        os::fail(&path[..length]);
-        return;
-    }
-    run(fd);
-    libc::close(fd);
 }

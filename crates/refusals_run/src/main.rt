@@ -8,6 +8,7 @@ use pool_types::{
     Submission, Sums, Verdict,
 };
 use process::process_words;
+use std::io;
 use words::ids::Id;
 
 // ---- the states
@@ -75,43 +76,33 @@ fn submission(id: u64) -> Submission {
     }
 }
 
-fn show(outcome: ProcessingOutcome) {
+fn show(rt: &impl Print, outcome: ProcessingOutcome) -> io::Result<()> {
     match outcome {
-        ProcessingOutcome::Accepted => {
-            io::write_all(1, b" accepted");
-        }
-        ProcessingOutcome::Replaced(_) => {
-            io::write_all(1, b" replaced");
-        }
-        ProcessingOutcome::DoubleSpendLoser(_) => {
-            io::write_all(1, b" refused 29");
-        }
-        ProcessingOutcome::VerdictNeeded => {
-            io::write_all(1, b" verdict needed");
-        }
-        ProcessingOutcome::Declined(number) => {
-            io::write_all(1, b" refused ");
-            io::print_decimal(1, number);
-        }
+        ProcessingOutcome::Accepted => print!(rt; " accepted"),
+        ProcessingOutcome::Replaced(_) => print!(rt; " replaced"),
+        ProcessingOutcome::DoubleSpendLoser(_) => print!(rt; " refused 29"),
+        ProcessingOutcome::VerdictNeeded => print!(rt; " verdict needed"),
+        ProcessingOutcome::Declined(number) => print!(rt; " refused {number}"),
     }
 }
 
 // Submits a transaction with these lists, with so many words for the answer, and prints what is answered.
 fn submit(
+    rt: &impl Print,
     entries: &mut [u64],
     boxes: &mut [u64],
-    case: &[u8],
+    case: &str,
     words: usize,
     mempool: Mempool,
     id: u64,
     inputs: &[u64],
     outputs: &[u64],
-) -> Mempool {
+) -> io::Result<Mempool> {
     let mut cache = [0u64; 23];
     let mut peers = [0u64; 512];
     let mut answer = [0u64; 8];
     if 8 < words {
-        return mempool;
+        return Ok(mempool);
     }
     let done = process_words(
         entries,
@@ -126,190 +117,267 @@ fn submit(
     );
     let outcome = done.outcome;
     let after = done.mempool;
-    io::write_all(1, case);
-    show(outcome);
-    io::write_all(1, b"\n");
-    after
+    print!(rt; "{case}")?;
+    show(rt, outcome)?;
+    println!(rt; "")?;
+    Ok(after)
 }
 
 // The transaction of the cases that are about the state: it spends box `id`, which is confirmed, and pays 2,000.
 fn offer(
+    rt: &impl Print,
     entries: &mut [u64],
     boxes: &mut [u64],
-    case: &[u8],
+    case: &str,
     words: usize,
     mempool: Mempool,
     id: u64,
-) -> Mempool {
+) -> io::Result<Mempool> {
     let inputs = [0, 0, 0, id, 1];
     let outputs = [0, 0, 1, id, 2000, 1, 50];
-    submit(entries, boxes, case, words, mempool, id, &inputs, &outputs)
+    submit(
+        rt, entries, boxes, case, words, mempool, id, &inputs, &outputs,
+    )
 }
 
 // ---- the cases
 
 // 1: "a list is no whole number of records"
-fn broken_inputs(entries: &mut [u64], boxes: &mut [u64], case: &[u8], mempool: Mempool) {
+fn broken_inputs(
+    rt: &impl Print,
+    entries: &mut [u64],
+    boxes: &mut [u64],
+    case: &str,
+    mempool: Mempool,
+) -> io::Result<()> {
     let inputs = [0, 0, 0, 7, 1, 0];
     let outputs = [0, 0, 0, 11, 2000, 1, 50];
-    submit(entries, boxes, case, 4, mempool, 1, &inputs, &outputs);
+    submit(rt, entries, boxes, case, 4, mempool, 1, &inputs, &outputs)?;
+    Ok(())
 }
 
-fn broken_outputs(entries: &mut [u64], boxes: &mut [u64], case: &[u8], mempool: Mempool) {
+fn broken_outputs(
+    rt: &impl Print,
+    entries: &mut [u64],
+    boxes: &mut [u64],
+    case: &str,
+    mempool: Mempool,
+) -> io::Result<()> {
     let inputs = [0, 0, 0, 7, 1];
     let outputs = [0, 0, 0, 11, 2000, 1];
-    submit(entries, boxes, case, 4, mempool, 1, &inputs, &outputs);
+    submit(rt, entries, boxes, case, 4, mempool, 1, &inputs, &outputs)?;
+    Ok(())
 }
 
-fn broken(entries: &mut [u64], boxes: &mut [u64], empty: Mempool) {
-    broken_inputs(entries, boxes, b"an input of 6 words:", empty);
-    broken_outputs(entries, boxes, b"an output of 6 words:", empty);
+fn broken(
+    rt: &impl Print,
+    entries: &mut [u64],
+    boxes: &mut [u64],
+    empty: Mempool,
+) -> io::Result<()> {
+    broken_inputs(rt, entries, boxes, "an input of 6 words:", empty)?;
+    broken_outputs(rt, entries, boxes, "an output of 6 words:", empty)
 }
 
 // 1: ".. or its counts disagree": with what is lent, 4 entries, 5,001 box records and 256 peer records
-fn miscounted(entries: &mut [u64], boxes: &mut [u64], empty: Mempool) {
+fn miscounted(
+    rt: &impl Print,
+    entries: &mut [u64],
+    boxes: &mut [u64],
+    empty: Mempool,
+) -> io::Result<()> {
     let pooled = counting(empty, 5, 0);
     let recorded = counting(empty, 0, 5002);
-    offer(entries, boxes, b"5 of 4 entries used:", 8, pooled, 1);
+    offer(rt, entries, boxes, "5 of 4 entries used:", 8, pooled, 1)?;
     offer(
+        rt,
         entries,
         boxes,
-        b"5002 of 5001 records used:",
+        "5002 of 5001 records used:",
         8,
         recorded,
         1,
-    );
+    )?;
+    Ok(())
 }
 
-fn overcharged(entries: &mut [u64], boxes: &mut [u64], empty: Mempool) {
+fn overcharged(
+    rt: &impl Print,
+    entries: &mut [u64],
+    boxes: &mut [u64],
+    empty: Mempool,
+) -> io::Result<()> {
     let peers = charged(empty, 257);
-    offer(entries, boxes, b"257 of 256 peers charged:", 8, peers, 1);
+    offer(rt, entries, boxes, "257 of 256 peers charged:", 8, peers, 1)?;
+    Ok(())
 }
 
 // 2: "answer buffer below pooled + 1 ids", of four words each
-fn first(entries: &mut [u64], boxes: &mut [u64], empty: Mempool) -> Mempool {
+fn first(
+    rt: &impl Print,
+    entries: &mut [u64],
+    boxes: &mut [u64],
+    empty: Mempool,
+) -> io::Result<Mempool> {
     let none = offer(
+        rt,
         entries,
         boxes,
-        b"none pooled, an answer of 3 words:",
+        "none pooled, an answer of 3 words:",
         3,
         empty,
         1,
-    );
+    )?;
     offer(
+        rt,
         entries,
         boxes,
-        b"none pooled, an answer of 4 words:",
+        "none pooled, an answer of 4 words:",
         4,
         none,
         1,
     )
 }
 
-fn second(entries: &mut [u64], boxes: &mut [u64], one: Mempool) {
+fn second(rt: &impl Print, entries: &mut [u64], boxes: &mut [u64], one: Mempool) -> io::Result<()> {
     let still = offer(
+        rt,
         entries,
         boxes,
-        b"one pooled, an answer of 7 words:",
+        "one pooled, an answer of 7 words:",
         7,
         one,
         2,
-    );
+    )?;
     offer(
+        rt,
         entries,
         boxes,
-        b"one pooled, an answer of 8 words:",
+        "one pooled, an answer of 8 words:",
         8,
         still,
         2,
-    );
+    )?;
+    Ok(())
 }
 
 // 20: "a pass is open", before all else
-fn open(entries: &mut [u64], boxes: &mut [u64], empty: Mempool) {
+fn open(rt: &impl Print, entries: &mut [u64], boxes: &mut [u64], empty: Mempool) -> io::Result<()> {
     let open = passing(empty);
-    offer(entries, boxes, b"a pass is open:", 4, open, 1);
+    offer(rt, entries, boxes, "a pass is open:", 4, open, 1)?;
     let unfit = counting(open, 5, 0);
     offer(
+        rt,
         entries,
         boxes,
-        b"a pass is open, 5 of 4 entries used:",
+        "a pass is open, 5 of 4 entries used:",
         4,
         unfit,
         1,
-    );
+    )?;
     broken_inputs(
+        rt,
         entries,
         boxes,
-        b"a pass is open, an input of 6 words:",
+        "a pass is open, an input of 6 words:",
         open,
-    );
+    )
 }
 
 // 7: "more than 5,000 inputs"; 5,000 and an output find their box records
-fn too_many(entries: &mut [u64], boxes: &mut [u64], inputs: &[u64], empty: Mempool) {
+fn too_many(
+    rt: &impl Print,
+    entries: &mut [u64],
+    boxes: &mut [u64],
+    inputs: &[u64],
+    empty: Mempool,
+) -> io::Result<()> {
     let outputs = [0, 0, 0, 11, 2000, 1, 50];
     submit(
+        rt,
         entries,
         boxes,
-        b"5001 inputs:",
+        "5001 inputs:",
         4,
         empty,
         1,
         inputs,
         &outputs,
-    );
+    )?;
+    Ok(())
 }
 
-fn one_less(entries: &mut [u64], boxes: &mut [u64], inputs: &[u64], empty: Mempool) {
+fn one_less(
+    rt: &impl Print,
+    entries: &mut [u64],
+    boxes: &mut [u64],
+    inputs: &[u64],
+    empty: Mempool,
+) -> io::Result<()> {
     let outputs = [0, 0, 0, 11, 2000, 1, 50];
     if inputs.len() < 5 {
-        return;
+        return Ok(());
     }
     submit(
+        rt,
         entries,
         boxes,
-        b"5000 inputs:",
+        "5000 inputs:",
         4,
         empty,
         1,
         &inputs[5..],
         &outputs,
-    );
+    )?;
+    Ok(())
 }
 
 // ---- all of them, on one store
 
-fn unfit(entries: &mut [u64], boxes: &mut [u64], empty: Mempool) {
-    broken(entries, boxes, empty);
-    miscounted(entries, boxes, empty);
-    overcharged(entries, boxes, empty);
+fn unfit(
+    rt: &impl Print,
+    entries: &mut [u64],
+    boxes: &mut [u64],
+    empty: Mempool,
+) -> io::Result<()> {
+    broken(rt, entries, boxes, empty)?;
+    miscounted(rt, entries, boxes, empty)?;
+    overcharged(rt, entries, boxes, empty)
 }
 
-fn fitting(entries: &mut [u64], boxes: &mut [u64], inputs: &[u64], empty: Mempool) {
-    let one = first(entries, boxes, empty);
-    second(entries, boxes, one);
-    open(entries, boxes, empty);
-    too_many(entries, boxes, inputs, empty);
-    one_less(entries, boxes, inputs, empty);
+fn fitting(
+    rt: &impl Print,
+    entries: &mut [u64],
+    boxes: &mut [u64],
+    inputs: &[u64],
+    empty: Mempool,
+) -> io::Result<()> {
+    let one = first(rt, entries, boxes, empty)?;
+    second(rt, entries, boxes, one)?;
+    open(rt, entries, boxes, empty)?;
+    too_many(rt, entries, boxes, inputs, empty)?;
+    one_less(rt, entries, boxes, inputs, empty)
 }
 
-fn run(entries: &mut [u64], boxes: &mut [u64], inputs: &[u64], empty: Mempool) {
-    unfit(entries, boxes, empty);
-    fitting(entries, boxes, inputs, empty);
+fn run(
+    rt: &impl Print,
+    entries: &mut [u64],
+    boxes: &mut [u64],
+    inputs: &[u64],
+    empty: Mempool,
+) -> io::Result<()> {
+    unfit(rt, entries, boxes, empty)?;
+    fitting(rt, entries, boxes, inputs, empty)
 }
 
 // One store: room for 4 transactions, and for the records of 5,000 inputs and an output. The inputs are one confirmed box, 5,001 times.
-fn main() {
+fn main(rt: HostRuntime) -> io::Result<()> {
     let mut entries = [0u64; 74];
     let mut boxes = [0u64; 81278];
     let inputs = [1u64; 25005];
     let begun = begin(&entries, &boxes);
     match begun {
-        StartOutcome::Ready(empty) => run(&mut entries, &mut boxes, &inputs, empty),
-        StartOutcome::NotStarted(number) => {
-            io::write_all(1, b"start: refused ");
-            io::print_decimal(1, number);
-        }
+        StartOutcome::Ready(empty) => run(&rt, &mut entries, &mut boxes, &inputs, empty),
+        StartOutcome::NotStarted(number) => print!(rt; "start: refused {number}"),
     }
 }

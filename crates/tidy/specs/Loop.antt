@@ -1,10 +1,14 @@
 -- What the functions of tidy's loop promise, over the definitions of Input, and the laws that their proofs cite.
-use Rattle.std.specs.Prelude.{ℕ, suc, ◌+◌, ◌-◌, ◌≤◌, ◌<◌, min, ◌≡◌, refl, Bool, true, false, List, [], ◌∷◌, ◌++◌, length, take, drop, set, get_or, leb}
-use Rattle.std.proofs.Common.{sym, ap, ap₂, subst, ◌∙◌, true≢false, append_assoc, add-one, arith, length-take, length-append, length-drop, length-set, take_all, take-suc, take-suc-set, take_at, leb-true, leb-false}
+use Rattle.std.specs.Prelude.{ℕ, suc, ◌+◌, ◌-◌, ◌≤◌, ◌<◌, min, ◌≡◌, refl, Bool, true, false, List, [], ◌∷◌, ◌++◌, length, take, drop, set, get_or, leb, None}
+use Rattle.std.proofs.Common.{sym, ap, ap₂, subst, ◌∙◌, true≢false, append_assoc, append-nil, add-one, arith, length-take, length-append, length-drop, length-set, take_all, take-suc, take-suc-set, take_at, leb-true, leb-false}
 use Rattle.words.specs.Sums.{cap}
 use Rattle.forms.specs.Nums.{Prints, over}
 use Rattle.replies.specs.ReplyLaws.{line-is, line-fits}
+use Rattle.spelling.specs.File.{input_of}
 use Rattle.spelling.specs.Tidied.{Tidied, Tidies, tidied-short}
+use Rattle.std.specs.Io.KnownBytes.{IsAtEnd}
+use Rattle.streams.specs.Laws.{written-none, written-then, taken-none, taken-then}
+use Rattle.streams.specs.Streams.{Stand, Written, Taken, Brought}
 use Rattle.tidy.specs.declared.Progress.{Progress}
 use Rattle.tidy.specs.Input as I
 use Rattle.tidy.specs.Input.{State, state_of, at_start, grown, spilled, begun, Ending, whole, rest, Step, adds, spills, ends, Fed, none, more, ended, Finished, last, Turn, some, Served, unread, reads}
@@ -37,37 +41,47 @@ pub record Closes (newline : Bool) (x : List ℕ) (n : ℕ) (y : List ℕ) (r : 
   pub line : newline ≡ true → (y ≡ set x n 10) × (r ≡ n + 1)
   pub last : newline ≡ false → (y ≡ x) × (r ≡ n)
 
--- what was written stands at the front of the buffer `out`
-pub record Steps (b : ℕ) (s s' : State) (out : List ℕ) : Type 0 where
+-- what was written stands at the front of the buffer `out`; o and o' are where the output stands before and behind it
+pub record Steps (b : ℕ) (s s' : State) (out : List ℕ) (o o' : Stand) : Type 0 where
   pub text : List ℕ
   pub is : Step b s text s'
   pub handed : take (length text) out ≡ text
+  pub written : Written o o' text
 
-pub record Finishes (s s' : State) (out : List ℕ) : Type 0 where
+pub record Finishes (s s' : State) (out : List ℕ) (o o' : Stand) : Type 0 where
   pub text : List ℕ
   pub is : Finished s text s'
   pub handed : take (length text) out ≡ text
+  pub written : Written o o' text
 
-pub record Feeds (bytes : List ℕ) (s s' : State) : Type 0 where
+pub record Feeds (bytes : List ℕ) (s s' : State) (o o' : Stand) : Type 0 where
   pub text : List ℕ
   pub is : Fed bytes s text s'
+  pub written : Written o o' text
 
-pub record Turns (bytes : List ℕ) (s s' : State) : Type 0 where
+pub record Turns (bytes : List ℕ) (s s' : State) (o o' : Stand) : Type 0 where
   pub text : List ℕ
   pub is : Turn bytes s text s'
+  pub written : Written o o' text
 
--- reads go on while the input has not ended, or up to 2^64−1 of them; `left` are not made yet
-pub record Serving (s s' : State) (left : ℕ) : Type 0 where
+-- reads go on while the input has not ended, or up to 2^64−1 of them; `left` are not made yet. i and i' are where the input stands
+pub record Serving (s s' : State) (left : ℕ) (i i' o o' : Stand) : Type 0 where
   pub brought : List (List ℕ)
   pub text : List ℕ
   pub is : Served brought s text s'
   pub count : length brought + left ≡ cap
+  pub taken : Taken i i' (input_of brought)
+  pub written : Written o o' text
 
-pub record Serves (s s' : State) : Type 0 where
+-- each read has so much room
+pub record Serves (room : ℕ) (s s' : State) (i i' o o' : Stand) : Type 0 where
   pub brought : List (List ℕ)
   pub text : List ℕ
   pub is : Served brought s text s'
   pub stops : s'.over ≡ false → length brought ≡ cap
+  pub taken : Taken i i' (input_of brought)
+  pub ends : s'.over ≡ true → i'.error ≡ None → 0 < room → IsAtEnd i'.known
+  pub written : Written o o' text
 
 -- ---- a line
 
@@ -106,14 +120,14 @@ module _ (l : List ℕ) (p : Progress) (n : ℕ) (x y : List ℕ) (r : ℕ) (siz
       }
 
 -- a newline behind what was printed
-pub steps-ends : (b : ℕ) (s : State) (x y z : List ℕ) (r : ℕ) → b ≡ 10 → length y ≡ length x → length x ≡ 4098 → (o : Outs s x y r) → z ≡ set y r 10 → Steps b s (begun s) z
-steps-ends b s x y z r e k h o q =
+pub steps-ends : {w w' : Stand} (b : ℕ) (s : State) (x y z : List ℕ) (r m : ℕ) → b ≡ 10 → length y ≡ length x → length x ≡ 4098 → (o : Outs s x y r) → Closes true y r z m → Written w w' (take m z)
+    → Steps b s (begun s) z w w'
+steps-ends {w} {w'} b s x y z r m e k h o c v =
+    let q = c.line refl in
     let n : length (o.text ++ (10 ∷ [])) ≡ suc r = omega (arith, length-append o.text (10 ∷ []), o.prints.ends) in
-    record {
-      text = o.text ++ (10 ∷ []);
-      is = ends e o.is;
-      handed = rw (n, q) (take-suc-set y r 10 (omega (arith, o.fits)) ∙ ap (λ (t : List ℕ). t ++ (10 ∷ [])) (line-is o.prints));
-    }
+    let f : take (length (o.text ++ (10 ∷ []))) z ≡ o.text ++ (10 ∷ []) = rw (n, q.0) (take-suc-set y r 10 (omega (arith, o.fits)) ∙ ap (λ (t : List ℕ). t ++ (10 ∷ [])) (line-is o.prints)) in
+    let same : m ≡ length (o.text ++ (10 ∷ [])) = omega (arith, q.1, n) in
+    record { text = o.text ++ (10 ∷ []); is = ends e o.is; handed = f; written = subst (Written w w') (ap (λ (i : ℕ). take i z) same ∙ f) v }
 
 pub whole-line : {s : State} (l : List ℕ) (n : ℕ) → n < length l → Ending s (take n l) → Whole s (take (n + 1) (set l n 10))
 whole-line l n h e = record { text = take n l; is = e; line = rw (add-one n) (take-suc-set l n 10 h) }
@@ -137,28 +151,36 @@ closed-last {s} {x} {y} {z} {r} {m} k h o c = let e = c.last refl in (rw (e.0, e
 pub held-is : {l x y : List ℕ} {r : ℕ} → Prints l 0 x y r → take r y ≡ l
 held-is w = line-is w
 
-pub finishes-is : (s : State) (x y : List ℕ) (r : ℕ) → Outs s x y r → Finishes s (ended s) y
-finishes-is s x y r o = record { text = o.text; is = last o.is; handed = ap (λ (n : ℕ). take n y) (let e : length o.text ≡ r = omega (arith, o.prints.ends) in e) ∙ line-is o.prints }
+pub finishes-is : {w w' : Stand} (s : State) (x y z : List ℕ) (r m : ℕ) → (o : Outs s x y r) → Closes false y r z m → Written w w' (take m z) → Finishes s (ended s) z w w'
+finishes-is {w} {w'} s x y z r m o c v =
+    let q = c.last refl in
+    let n : length o.text ≡ r = omega (arith, o.prints.ends) in
+    let f : take (length o.text) z ≡ o.text = rw (n, q.0) (line-is o.prints) in
+    let same : m ≡ length o.text = omega (arith, q.1, n) in
+    record { text = o.text; is = last o.is; handed = f; written = subst (Written w w') (ap (λ (i : ℕ). take i z) same ∙ f) v }
 
 -- ---- a byte of a line
 
 module _ (l : List ℕ) (p : Progress) (b : ℕ) (out : List ℕ) (size : length l ≡ 4097) (no : b ≡ 10 → ⊥) where
-  pub steps-adds : p.len < 4097 → Steps b (state_of l p) (state_of (set l p.len b) (record { len = p.len + 1; long = p.long; over = p.over })) out
+  pub steps-adds : {w : Stand} → p.len < 4097 → Steps b (state_of l p) (state_of (set l p.len b) (record { len = p.len + 1; long = p.long; over = p.over })) out w w
   steps-adds h =
       record {
         text = [];
         is = rw (add-one p.len, take-suc-set l p.len b (omega arith)) (adds no (omega (arith, length-take p.len l)));
         handed = refl;
+        written = written-none;
       }
 
-  pub steps-spills : (x : List ℕ) (r : ℕ) → 4097 ≤ p.len → Prints l 0 x out r → Steps b (state_of l p) (state_of (set l 0 b) (record { len = 1; long = true; over = p.over })) out
-  steps-spills x r h w =
+  pub steps-spills : {v v' : Stand} (x : List ℕ) (r : ℕ) → 4097 ≤ p.len → Prints l 0 x out r → Written v v' (take r out)
+      → Steps b (state_of l p) (state_of (set l 0 b) (record { len = 1; long = true; over = p.over })) out v v'
+  steps-spills {v} {v'} x r h w u =
       let e : take p.len l ≡ l = take_all p.len l (omega arith) in
       let one : take 1 (set l 0 b) ≡ b ∷ [] = take-suc-set l 0 b (omega arith) in
       record {
         text = take p.len l;
         is = rw one (spills no (omega (arith, length-take p.len l)));
         handed = rw e (ap (λ (n : ℕ). take n out) (let z : length l ≡ r = omega (arith, w.ends) in z) ∙ line-is w);
+        written = subst (Written v v') (line-is w ∙ sym e) u;
       }
 
 -- ---- all bytes
@@ -167,45 +189,107 @@ pub fed-join : {cs bs t u : List ℕ} {s s' s'' : State} → Fed cs s t s' → F
 fed-join none g = g
 fed-join (more {b} {bs} {t} {ts} x f) g = rw (append_assoc t ts _) (more x (fed-join f g))
 
-pub feeds-none : {s : State} → Feeds [] s s
-feeds-none = record { text = []; is = none }
+pub feeds-none : {s : State} {o : Stand} → Feeds [] s s o o
+feeds-none = record { text = []; is = none; written = written-none }
 
-pub feeds-more : {s s' s'' : State} {out : List ℕ} (l : List ℕ) (i : ℕ) → i < length l → Feeds (take i l) s s' → Steps (get_or l i 0) s' s'' out → Feeds (take (i + 1) l) s s''
-feeds-more l i h f x = record { text = f.text ++ (x.text ++ []); is = rw (add-one i, take-suc l i 0 h) (fed-join f.is (more x.is none)) }
+pub feeds-more : {s s' s'' : State} {o o' o'' : Stand} {out : List ℕ} (l : List ℕ) (i : ℕ) → i < length l → Feeds (take i l) s s' o o' → Steps (get_or l i 0) s' s'' out o' o'' → Feeds (take (i + 1) l) s s'' o o''
+feeds-more l i h f x =
+    record {
+      text = f.text ++ (x.text ++ []);
+      is = rw (add-one i, take-suc l i 0 h) (fed-join f.is (more x.is none));
+      written = written-then f.written (written-then x.written written-none);
+    }
 
-pub feeds-all : {s s' : State} (l : List ℕ) (i : ℕ) → length l ≤ i → Feeds (take i l) s s' → Feeds l s s'
-feeds-all {s} {s'} l i h f = subst (λ (bs : List ℕ). Feeds bs s s') (take_all i l h) f
+pub feeds-all : {s s' : State} {o o' : Stand} (l : List ℕ) (i : ℕ) → length l ≤ i → Feeds (take i l) s s' o o' → Feeds l s s' o o'
+feeds-all {s} {s'} {o} {o'} l i h f = subst (λ (bs : List ℕ). Feeds bs s s' o o') (take_all i l h) f
+
+-- ---- the end of the input
+
+pub step-over : {b : ℕ} {t : List ℕ} {s s' : State} → Step b s t s' → s'.over ≡ s.over
+step-over (adds x y) = refl
+step-over (spills x y) = refl
+step-over (ends x y) = refl
+
+pub fed-over : {bs t : List ℕ} {s s' : State} → Fed bs s t s' → s'.over ≡ s.over
+fed-over none = refl
+fed-over (more x f) = fed-over f ∙ step-over x
+
+-- only a read that brings nothing ends it
+turn-over : {bs t : List ℕ} {s s' : State} → Turn bs s t s' → s.over ≡ false → s'.over ≡ true → bs ≡ []
+turn-over (I.over x) h e = refl
+turn-over (some f) h e = absurd (true≢false (sym e ∙ fed-over f ∙ h))
 
 -- ---- reads
 
-pub turns-over : {s s' : State} {out : List ℕ} (l : List ℕ) → length l ≡ 0 → Finishes s s' out → Turns l s s'
-turns-over [] h x = record { text = x.text; is = I.over x.is }
+pub turns-over : {s s' : State} {o o' : Stand} {out : List ℕ} (l : List ℕ) → length l ≡ 0 → Finishes s s' out o o' → Turns l s s' o o'
+turns-over [] h x = record { text = x.text; is = I.over x.is; written = x.written }
 turns-over (b ∷ l) h x = absurd (omega arith)
 
-pub turns-some : {s s' : State} (l : List ℕ) → (length l ≡ 0 → ⊥) → Feeds l s s' → Turns l s s'
+pub turns-some : {s s' : State} {o o' : Stand} (l : List ℕ) → (length l ≡ 0 → ⊥) → Feeds l s s' o o' → Turns l s s' o o'
 turns-some [] h x = absurd (h refl)
-turns-some (b ∷ l) h x = record { text = x.text; is = some x.is }
+turns-some (b ∷ l) h x = record { text = x.text; is = some x.is; written = x.written }
 
 served-join : {cs bs : List (List ℕ)} {t u : List ℕ} {s s' s'' : State} → Served cs s t s' → Served bs s' u s'' → Served (cs ++ bs) s (t ++ u) s''
 served-join unread g = g
 served-join (reads {r} {rs} {t} {ts} h x f) g = rw (append_assoc t ts _) (reads h x (served-join f g))
 
-pub serving-none : (l : List ℕ) → Serving at_start (state_of l (record { len = 0; long = false; over = false })) cap
-serving-none l = record { brought = []; text = []; is = unread; count = omega arith }
+input-more : (rs : List (List ℕ)) (r : List ℕ) → input_of rs ++ r ≡ input_of (rs ++ (r ∷ []))
+unfolding input_of
+input-more [] r = sym (append-nil r)
+input-more (q ∷ rs) r = append_assoc q (input_of rs) r ∙ ap (λ (t : List ℕ). q ++ t) (input-more rs r)
+
+taken-start : {i : Stand} → Taken i i (input_of [])
+unfolding input_of
+taken-start = taken-none
+
+pub serving-none : {i o : Stand} (l : List ℕ) → Serving at_start (state_of l (record { len = 0; long = false; over = false })) cap i i o o
+serving-none l = record { brought = []; text = []; is = unread; count = omega arith; taken = taken-start; written = written-none }
 
 -- one read more
-module _ {s s' s'' : State} (bs : List ℕ) (n : ℕ) (y : Serving s s' n) (go : s'.over ≡ false) (x : Turns bs s' s'') where
+module _ {s s' s'' : State} {i i' i'' o o' o'' : Stand} (bs : List ℕ) (n room size : ℕ) (same : size ≡ room) (y : Serving s s' n i i' o o') (go : s'.over ≡ false) (g : Brought size i' i'' bs) (x : Turns bs s' s'' o' o'') where
   one_more : Served (y.brought ++ (bs ∷ [])) s (y.text ++ (x.text ++ [])) s''
   one_more = served-join y.is (reads go x.is unread)
 
-  pub serving-more : 0 < n → Serving s s'' (n - 1)
-  serving-more h = record { brought = y.brought ++ (bs ∷ []); text = y.text ++ (x.text ++ []); is = one_more; count = omega (arith, length-append y.brought (bs ∷ []), y.count) }
+  all-taken : Taken i i'' (input_of (y.brought ++ (bs ∷ [])))
+  all-taken = subst (Taken i i'') (input-more y.brought bs) (taken-then y.taken g.taken)
 
-  pub serves-over : s''.over ≡ true → Serves s s''
-  serves-over h = record { brought = y.brought ++ (bs ∷ []); text = y.text ++ (x.text ++ []); is = one_more; stops = λ z. absurd (true≢false (sym h ∙ z)) }
+  all-written : Written o o'' (y.text ++ (x.text ++ []))
+  all-written = written-then y.written (written-then x.written written-none)
 
-pub serves-cut : {s s' : State} (n : ℕ) → n ≡ 0 → Serving s s' n → Serves s s'
-serves-cut n h y = record { brought = y.brought; text = y.text; is = y.is; stops = λ z. omega (arith, y.count) }
+  pub serving-more : 0 < n → Serving s s'' (n - 1) i i'' o o''
+  serving-more h =
+      record {
+        brought = y.brought ++ (bs ∷ []);
+        text = y.text ++ (x.text ++ []);
+        is = one_more;
+        count = omega (arith, length-append y.brought (bs ∷ []), y.count);
+        taken = all-taken;
+        written = all-written;
+      }
+
+  pub serves-over : s''.over ≡ true → Serves room s s'' i i'' o o''
+  serves-over h =
+      record {
+        brought = y.brought ++ (bs ∷ []);
+        text = y.text ++ (x.text ++ []);
+        is = one_more;
+        stops = λ z. absurd (true≢false (sym h ∙ z));
+        taken = all-taken;
+        ends = λ z e k. g.ends e (omega (arith, same)) (turn-over x.is go h);
+        written = all-written;
+      }
+
+pub serves-cut : {s s' : State} {i i' o o' : Stand} (n room : ℕ) → n ≡ 0 → s'.over ≡ false → Serving s s' n i i' o o' → Serves room s s' i i' o o'
+serves-cut n room h e y =
+    record {
+      brought = y.brought;
+      text = y.text;
+      is = y.is;
+      stops = λ z. omega (arith, y.count);
+      taken = y.taken;
+      ends = λ z. absurd (true≢false (sym z ∙ e));
+      written = y.written;
+    }
 
 -- ---- the buffers are lent on
 

@@ -1,5 +1,6 @@
--- THEOREM `served-file`: what tidy writes of an input that has ended is the whole input, tidied.
-use Rattle.std.specs.Prelude.{ℕ, ◌+◌, ◌<◌, ◌≤◌, ◌≡◌, Bool, true, false, List, [], ◌∷◌, ◌++◌, length}
+-- THEOREM `served-file`: what tidy writes of an input that has ended is the whole input, tidied. `tidies-input`: and where the bytes of the input and of the
+-- output are known, so is the output's text of all that was to be read.
+use Rattle.std.specs.Prelude.{ℕ, ◌+◌, ◌<◌, ◌≤◌, ◌≡◌, Bool, true, false, List, [], ◌∷◌, ◌++◌, length, None, Some}
 use Rattle.std.proofs.Math.Path.{refl, subst}
 use Rattle.std.proofs.Common.{sym, ap, ap₂, ◌∙◌, append_assoc, append-nil, arith}
 use Rattle.std.proofs.Math.ListN.{length-append}
@@ -8,9 +9,13 @@ use Rattle.forms.specs.TextLaws.{true-false, by_bool}
 use Rattle.lines.specs.Forms.{is_read, form_of}
 use Rattle.spelling.specs.Tidied.{Tidied, read, kept}
 use Rattle.spelling.specs.File as F
+use Rattle.std.specs.Io.KnownBytes.{Appends}
+use Rattle.streams.specs.Laws.{taken-front, taken-whole}
+use Rattle.streams.specs.Streams.{Stand}
+use Rattle.words.specs.Sums.{cap}
 use Rattle.spelling.specs.File.{File, Clean, clean-join, input_of}
 use Rattle.tidy.specs.Input as I
-use Rattle.tidy.specs.Loop.{fed-join}
+use Rattle.tidy.specs.Loop.{fed-join, step-over, fed-over, Serves}
 use Rattle.tidy.specs.Input.{State, at_start, grown, spilled, begun, Ending, whole, rest, Step, adds, spills, ends, Fed, none, more, ended, Finished, last, Turn, some, Served, unread, reads}
 
 -- the bytes of the line in progress, those written (`sent`) first
@@ -60,15 +65,6 @@ fed-file {u = u} {s = s} sent h (more {b} {bs} {ts = ts} (ends {t} e y) f) g =
 
 -- ---- reads: the pieces that they brought, up to the one that brought nothing
 
-step-over : {b : ℕ} {t : List ℕ} {s s' : State} → Step b s t s' → s'.over ≡ s.over
-step-over (adds x y) = refl
-step-over (spills x y) = refl
-step-over (ends x y) = refl
-
-fed-over : {bs t : List ℕ} {s s' : State} → Fed bs s t s' → s'.over ≡ s.over
-fed-over none = refl
-fed-over (more x f) = fed-over f ∙ step-over x
-
 -- behind the end nothing is read
 stopped : {rs : List (List ℕ)} {t : List ℕ} {s s' : State} → s.over ≡ true → Served rs s t s' → (input_of rs ≡ []) × (t ≡ [])
 unfolding input_of
@@ -93,3 +89,32 @@ served-from {bs = bs} {u = u} {s = s} sent h f go (reads {r} {rs} {t} {ts} q (so
 pub served-file : {rs : List (List ℕ)} {t : List ℕ} {s : State} → Served rs at_start t s → s.over ≡ true → File (input_of rs) t
 unfolding Clean
 served-file g e = served-from [] (record { clean = tt; short = λ x. refl; long = λ x. true-false x refl }) none refl g e
+
+-- ---- what `run` promises: of an input whose bytes f are known, where no read and no write failed, the output has grown by f, tidied
+
+pub record TidiedAs (f : List ℕ) (o o' : Stand) : Type 0 where
+  pub text : List ℕ
+  pub file : File f text
+  pub grows : Appends o.known o'.known text
+
+pub record TidiesInput (i i' o o' : Stand) : Type 0 where
+  pub tidied : (f : List ℕ) → i.known ≡ Some f → length f < cap → i'.error ≡ None → o'.error ≡ None → TidiedAs f o o'
+
+over-stays : {rs : List (List ℕ)} {t : List ℕ} {s s' : State} → s.over ≡ true → Served rs s t s' → s'.over ≡ true
+over-stays e unread = e
+over-stays e (reads h x f) = true-false e h
+
+-- each read but the last brought something
+served-long : {rs : List (List ℕ)} {t : List ℕ} {s s' : State} → Served rs s t s' → s'.over ≡ false → length rs ≤ length (input_of rs)
+unfolding input_of
+served-long unread e = omega arith
+served-long (reads h (I.over (last x)) g) e = true-false (over-stays refl g) e
+served-long (reads {rs = rs} h (some {b} {bs} x) g) e = omega (arith, served-long g e, length-append (b ∷ bs) (input_of rs))
+
+-- THEOREM: what was written of an input that is known is the whole input, tidied
+pub tidies-input : {room : ℕ} {s : State} {i i' o o' : Stand} → 0 < room → Serves room at_start s i i' o o' → TidiesInput i i' o o'
+tidies-input {room} {s} {i} {i'} {o} {o'} k x = record { tidied = λ f e h q p. by_bool s.over (λ z. whole f e q p z) (λ z. absurd (omega (arith, x.stops z, served-long x.is z, taken-front f e x.taken, h))) }
+  where
+    whole : (f : List ℕ) → i.known ≡ Some f → i'.error ≡ None → o'.error ≡ None → s.over ≡ true → TidiedAs f o o'
+    whole f e q p z =
+        record { text = x.text; file = subst (λ (w : List ℕ). File w x.text) (taken-whole f e x.taken (x.ends z q k)) (served-file x.is z); grows = x.written.grows p }

@@ -3,12 +3,16 @@
 #![tactic(auto)]
 
 ghost use Rattle.std.specs.Prelude.{◌≡◌, ◌≤◌, ◌<◌, length};
-ghost use Rattle.io.specs.Counts.{IsPrefixLen};
+ghost use Rattle.streams.specs.Streams.{Written};
 ghost use Rattle.tidy.specs.Input.{state_of, at_start, Ending};
 ghost use Rattle.tidy.specs.Loop.{Sized, Whole, Outs, Closes, Steps, Finishes, Feeds, Turns, Serves};
+ghost use Rattle.tidy.specs.Whole.{TidiesInput};
 
 use replies::pieces::text;
 use spelling::tidy_line;
+use std::io::{Read, Write};
+use std::{env, fs, io};
+use streams::{Input, Output, Sink, Source};
 use words::sums::smaller;
 
 // What goes from byte to byte: how much of a line is held, whether some of it was written already, and whether the input has ended.
@@ -19,32 +23,28 @@ struct Progress {
     over: bool,
 }
 
-// Hands bytes to standard output. What arrives there no contract can say; where the output takes no more, it is said on standard error.
-fn hand_over(bytes: &[u8]) {
-    if !io::write_all(1, bytes) {
-        os::fail(b"tidy: standard output");
-    }
-}
-
 // The bytes of the line in progress that are held, before another comes.
-fn hand_held(bytes: &[u8], line: &[u8])
+fn hand_held<O: Sink>(to: &mut O, bytes: &[u8], line: &[u8])
     requires { bytes.now ≡ line.now }
+    ensures { Written (O.stand to.old) (O.stand to.new) bytes.now }
 {
-    hand_over(bytes);
+    to.hand(bytes);
 }
 
 // How the line in progress comes out, and its newline.
-fn hand_line(bytes: &[u8], line: &[u8], p: Progress)
+fn hand_line<O: Sink>(to: &mut O, bytes: &[u8], line: &[u8], p: Progress)
     requires { Whole (state_of line.now p) bytes.now }
+    ensures { Written (O.stand to.old) (O.stand to.new) bytes.now }
 {
-    hand_over(bytes);
+    to.hand(bytes);
 }
 
 // How the last line comes out.
-fn hand_last(bytes: &[u8], line: &[u8], p: Progress)
+fn hand_last<O: Sink>(to: &mut O, bytes: &[u8], line: &[u8], p: Progress)
     requires { Ending (state_of line.now p) bytes.now }
+    ensures { Written (O.stand to.old) (O.stand to.new) bytes.now }
 {
-    hand_over(bytes);
+    to.hand(bytes);
 }
 
 // The end of the line in progress, to the start of `out`: a line that is whole is tidied, the rest of a longer one stays.
@@ -72,9 +72,9 @@ fn close(out: &mut [u8], len: usize, newline: bool) -> usize
 }
 
 // A byte of a line. Where the buffer is full the line is too long, and what is held of it is written.
-fn add_byte(b: u8, line: &mut [u8], out: &mut [u8], p: Progress) -> Progress
+fn add_byte<O: Sink>(b: u8, line: &mut [u8], out: &mut [u8], to: &mut O, p: Progress) -> Progress
     requires { (length line.old ≡ 4097) × (length out.old ≡ 4098) × (b ≡ 10 → ⊥) }
-    ensures { Steps b (state_of line.old p) (state_of line.new result) out.new }
+    ensures { Steps b (state_of line.old p) (state_of line.new result) out.new (O.stand to.old) (O.stand to.new) }
 {
     let len = p.len;
     if len < line.len() {
@@ -86,7 +86,7 @@ fn add_byte(b: u8, line: &mut [u8], out: &mut [u8], p: Progress) -> Progress
         };
     }
     let n = text(out, 0, &line[..]);
-    hand_held(&out[..n], &line[..]);
+    hand_held(to, &out[..n], &line[..]);
     line[0] = b;
     Progress {
         len: 1,
@@ -96,23 +96,24 @@ fn add_byte(b: u8, line: &mut [u8], out: &mut [u8], p: Progress) -> Progress
 }
 
 // The next byte of the input.
-fn step(
+fn step<O: Sink>(
     b: u8,
     line: &mut [u8],
     first: &mut [u64],
     second: &mut [u64],
     out: &mut [u8],
+    to: &mut O,
     p: Progress,
 ) -> Progress
     requires { Sized line.old first.old second.old out.old }
-    ensures { Steps b (state_of line.old p) (state_of line.new result) out.new }
+    ensures { Steps b (state_of line.old p) (state_of line.new result) out.new (O.stand to.old) (O.stand to.new) }
 {
     if b != 10 {
-        return add_byte(b, line, out, p);
+        return add_byte(b, line, out, to, p);
     }
     let len = ending(&line[..], first, second, out, p);
     let n = close(out, len, true);
-    hand_line(&out[..n], &line[..], p);
+    hand_line(to, &out[..n], &line[..], p);
     Progress {
         len: 0,
         long: false,
@@ -121,40 +122,42 @@ fn step(
 }
 
 // The bytes that one read brought.
-fn feed(
+fn feed<O: Sink>(
     input: &[u8],
     line: &mut [u8],
     first: &mut [u64],
     second: &mut [u64],
     out: &mut [u8],
+    to: &mut O,
     begun: Progress,
 ) -> Progress
     requires { Sized line.old first.old second.old out.old }
-    ensures { Feeds input.now (state_of line.old begun) (state_of line.new result) }
+    ensures { Feeds input.now (state_of line.old begun) (state_of line.new result) (O.stand to.old) (O.stand to.new) }
 {
     let mut p = begun;
     let mut i = 0;
     while i < input.len() {
-        p = step(input[i], line, first, second, out, p);
+        p = step(input[i], line, first, second, out, to, p);
         i += 1;
     }
     p
 }
 
 // The input has ended. The last line comes out without a newline.
-fn finish(
+fn finish<O: Sink>(
     line: &[u8],
     first: &mut [u64],
     second: &mut [u64],
     out: &mut [u8],
+    to: &mut O,
     p: Progress,
 ) -> Progress
     requires { Sized line.now first.old second.old out.old }
-    ensures { Finishes (state_of line.now p) (state_of line.now result) out.new }
+    ensures { Finishes (state_of line.now p) (state_of line.now result) out.new (O.stand to.old) (O.stand to.new) }
 {
     let len = ending(line, first, second, out, p);
     let n = close(out, len, false);
-    hand_last(&out[..n], line, p);
+    hand_last(to, &out[..n], line, p);
     Progress {
         len: p.len,
         long: p.long,
@@ -163,45 +166,36 @@ fn finish(
 }
 
 // What one read brought: nothing at the end of the input.
-fn turn(
+fn turn<O: Sink>(
     input: &[u8],
     line: &mut [u8],
     first: &mut [u64],
     second: &mut [u64],
     out: &mut [u8],
+    to: &mut O,
     p: Progress,
 ) -> Progress
     requires { Sized line.old first.old second.old out.old }
-    ensures { Turns input.now (state_of line.old p) (state_of line.new result) }
+    ensures { Turns input.now (state_of line.old p) (state_of line.new result) (O.stand to.old) (O.stand to.new) }
 {
     if input.len() == 0 {
-        return finish(&line[..], first, second, out, p);
+        return finish(&line[..], first, second, out, to, p);
     }
-    feed(input, line, first, second, out, p)
+    feed(input, line, first, second, out, to, p)
 }
 
-// One read, to the front of `input`. Which bytes it brings no contract can say; a read that fails brings none, and is said on standard error.
-fn read_some(fd: i32, input: &mut [u8]) -> usize
-    ensures { IsPrefixLen result input.new }
-{
-    let got = libc::read(fd, input);
-    if got < 0 {
-        os::fail(b"tidy: input");
-    }
-    io::count(got, &input[..])
-}
-
-// All that a file holds. Memory does not grow with it.
-fn serve(
-    fd: i32,
+// All that is read. Memory does not grow with it.
+fn serve<I: Source, O: Sink>(
+    from: &mut I,
     input: &mut [u8],
     line: &mut [u8],
     first: &mut [u64],
     second: &mut [u64],
     out: &mut [u8],
+    to: &mut O,
 ) -> Progress
     requires { Sized line.old first.old second.old out.old }
-    ensures { Serves at_start (state_of line.new result) }
+    ensures { Serves (length input.old) at_start (state_of line.new result) (I.stand from.old) (I.stand from.new) (O.stand to.old) (O.stand to.new) }
 {
     let mut p = Progress {
         len: 0,
@@ -211,8 +205,8 @@ fn serve(
     // a proved loop has to end, and nothing says that an input does
     let mut turns = u64::MAX;
     while turns > 0 {
-        let n = read_some(fd, input);
-        p = turn(&input[..n], line, first, second, out, p);
+        let n = from.read_some(input);
+        p = turn(&input[..n], line, first, second, out, to, p);
         if p.over {
             return p;
         }
@@ -221,27 +215,38 @@ fn serve(
     p
 }
 
-fn run(fd: i32) {
+// Writes all that is read, tidied.
+fn run<I: Source, O: Sink>(from: &mut I, to: &mut O)
+    ensures { TidiesInput (I.stand from.old) (I.stand from.new) (O.stand to.old) (O.stand to.new) }
+{
     let mut first = [0u64; 14336];
     let mut second = [0u64; 14336];
     let mut out = [0u8; 4098];
     let mut input = [0u8; 8192];
     let mut line = [0u8; 4097];
-    serve(fd, &mut input, &mut line, &mut first, &mut second, &mut out);
+    serve(
+        from,
+        &mut input,
+        &mut line,
+        &mut first,
+        &mut second,
+        &mut out,
+        to,
+    );
 }
 
-fn main() {
-    let mut path = io::buffer();
-    let length = os::arg(1, &mut path);
-    if os::errno() != 0 {
-        run(0);
-        return;
+// The same, and what failed.
+fn tidied<R: Read + Drop, W: Write + Drop>(from: R, to: W) -> io::Result<()> {
+    let mut input = Input::new(from);
+    let mut output = Output::new(to);
+    run(&mut input, &mut output);
+    input.end()?;
+    output.end()
+}
+
+fn main(rt: HostRuntime) -> io::Result<()> {
+    match env::args(&rt)?.nth(1) {
+        Some(path) => tidied(fs::open(&rt, path.as_str())?, rt.stdout()),
+        None => tidied(rt.stdin(), rt.stdout()),
     }
-    let fd = os::open_read(&path[..length]);
-    if fd < 0 {
-        os::fail(&path[..length]);
-        return;
-    }
-    run(fd);
-    libc::close(fd);
 }
