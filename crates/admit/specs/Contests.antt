@@ -1,5 +1,5 @@
 -- What the test of 29 goes by: one weight, the sum of weights id by id, and the test as the code makes it.
-use Rattle.std.specs.Prelude.{ℕ, ◌+◌, ◌*◌, ◌^◌, ◌≤◌, ◌<◌, ◌≡◌, false, List, [], leb, drop}
+use Rattle.std.specs.Prelude.{ℕ, ◌+◌, ◌*◌, ◌^◌, ◌≤◌, ◌<◌, ◌≡◌, false, List, leb, drop}
 use Rattle.std.proofs.Common.{sym, ap, ◌∙◌, add_assoc, add-zero}
 use native.Mathlib.Omega.{arith}
 use borrow.Author.Tests.{eq-eqb, ne_eqb}

@@ -42,4 +42,4 @@ returns-clause-leaves c = let a = c.args in
     let s = c.seat.ensures in λ k new.
     let l = c.conflicts-k.ensures.listed k.boxes in
     let went = c.remove_all-left.ensures.left k in
-    rw (← l.rows) (contest-won _ _ _ _ _ _ _ _ _ _ _ _ _ _ (sym (c.is_loser.ensures k.entries) ∙ c.if-is_loser.false) went.tables (s.unmoved.1 went.kept (still-new _ _ _ _ (ids_to 4 _ _) (tables_of a.entries.now a.boxes.now a.counts) went new)))
+    rw (← l.rows) (contest-won _ _ _ _ _ _ _ _ _ _ _ _ _ _ (sym (c.is_loser.ensures k.entries) ∙ c.if-is_loser.false) went.tables (s.leaves went.kept (still-new _ _ _ _ (ids_to 4 _ _) (tables_of a.entries.now a.boxes.now a.counts) went new)))

@@ -12,4 +12,4 @@ returns-clause-leaves c = let a = c.args in
     let s = c.seat.ensures in λ k new.
     contest-free _ _ _ _ _ _ _ _ _ _ _ _ _ _
     (no-conflict (ids_of 5 a.inputs.now) (boxes_of a.boxes.now a.counts.records) (sym (c.any_spent.ensures k.boxes) ∙ c.if-any_spent.false))
-    (of_none (ids 4) _) (s.unmoved.1 k new)
+    (of_none (ids 4) _) (s.leaves k new)

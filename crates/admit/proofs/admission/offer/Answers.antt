@@ -15,4 +15,4 @@ returns-then-fee-config-clause-leaves c = let p = c.requires in
 pub returns-clause-leaves : goal.returns-clause-leaves
 returns-clause-leaves c = let a = c.args in
     let p = c.find_place.ensures in
-    let x = c.newcomer-e.ensures in λ k new. fee-contested _ _ _ _ _ _ _ _ _ c.requires.inputs_bound.1 _ _ _ _ _ c.if-fee-config.false _ _ _ c.cost_of.ensures c.fee_per_factor-base.ensures x (p.spares_words.1 k (own-id _ _ _ _ _ _ (entries_of a.entries.now a.counts.pooled) x new))
+    let x = c.newcomer-e.ensures in λ k new. fee-contested _ _ _ _ _ _ _ _ _ c.requires.inputs_bound.1 _ _ _ _ _ c.if-fee-config.false _ _ _ c.cost_of.ensures c.fee_per_factor-base.ensures x (p.leaves k (own-id _ _ _ _ _ _ (entries_of a.entries.now a.counts.pooled) x new))

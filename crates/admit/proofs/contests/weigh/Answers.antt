@@ -1,7 +1,6 @@
 -- `contests::weigh` meets its contract. The loop's invariant: the sum so far is in bounds (`Weighty`), and with the weights that are left it
 -- is the whole sum (`Weighing`). Assumes nothing.
 use native.Mathlib.Omega.{arith}
-use Prim.Native.Nat.{◌-◌}
 use Rattle.admit.specs.Contests.{weighty-none, weighty-room, weighty-more, weighing-none, weighing-more, weighing-all}
 use Rattle.admit.proofs.contests.weigh.Goals as goal
 
