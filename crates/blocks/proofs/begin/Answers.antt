@@ -11,7 +11,7 @@ pub prune-cached-requires : goal.prune-cached-requires
 prune-cached-requires c = begin-cache _ _ _ _ _ _ _ c.refusal-code.ensures c.fresh-start.ensures c.if-code-ne0.false
 
 pub next-requires : goal.next-requires
-next-requires c = begin-ready _ _ _ _ _ _ _ c.refusal-code.ensures c.fresh-start.ensures c.if-code-ne0.false _ (omega (arith, c.good))
+next-requires c = begin-ready _ _ _ _ _ _ _ c.refusal-code.ensures c.fresh-start.ensures c.if-code-ne0.false _ (omega arith)
 
 pub returns : goal.returns
 returns c = run-begun _ _ _ _ _ _ _ c.refusal-code.ensures c.fresh-start.ensures c.if-code-ne0.false refl c.prune-cached.ensures.pruned c.next.ensures

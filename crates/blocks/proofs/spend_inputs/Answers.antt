@@ -1,6 +1,5 @@
 -- `blocks::spend_inputs` meets its contract. The loop's invariant: the inputs that are left, over where we are, give what all of them give over where we began (`Turned`). Assumes nothing.
 use native.Mathlib.Omega.{arith}
-use Prim.Native.Nat.{◌-◌}
 use Rattle.blocks.specs.Steps.{turn_more, turn-all, spent-more, spent_all}
 use Rattle.blocks.proofs.spend_inputs.Goals as goal
 
