@@ -3,7 +3,7 @@ use Rattle.std.specs.Prelude.{ℕ, ◌≤◌, ◌≡◌, refl, List, [], ◌++�
 use Rattle.std.proofs.Common.{sym, ap, ◌∙◌, append_assoc, append-nil, arith, length-append}
 use Rattle.std.specs.Io.KnownBytes.{Appends, Consumes, IsAtEnd}
 use Rattle.std.specs.declared.option.Option.{Option}
-use Rattle.streams.specs.Streams.{Stand, Written, Taken, Brought}
+use Rattle.streams.specs.Streams.{Stand, Written, Taken}
 
 grows-none : (k : Option (List ℕ)) → Appends k k []
 grows-none None = tt
