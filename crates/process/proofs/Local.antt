@@ -8,7 +8,7 @@ use Prim.Native.Nat.{ℕ}
 use mathlib.Core.List.{List, [], ◌∷◌, map}
 use lib.ListN.{length, length-map}
 use seplogic.Ra.Ura.{Ura}
-use seplogic.Ra.TreeShare.{full_share}
+use base.Fraction.{full_share}
 use mir.Syntax.{Lifetime}
 use mir.Val.{Val}
 use base.Logic.{ent, sep}
@@ -44,15 +44,15 @@ module _ {X Y : Type 0} (g : Y → List Val → Fml) (into : X → Y) where
 module _ {M : Type 1} {𝓤 : Ura M} (𝓛 : Logic 𝓤) (R : RattleType) where
   open 𝓛 use {H, A}
 
-  pub part_in : (x : R.Denot) (vs : List Val) (b o : ℕ) → ent 𝓤 (sep 𝓤 (sem 𝓛 (cell_at full_share R.mir vs b o)) (sem 𝓛 (R.own x vs))) (sem 𝓛 (part_at R full_share x b o))
+  pub part_in : (x : R.Denot) (vs : List Val) (b o : ℕ) → ent 𝓤 (sep 𝓤 (sem 𝓛 (cell_at full_share R.mir vs b o)) (sem 𝓛 (R.own_val x vs))) (sem 𝓛 (part_at R full_share x b o))
   unfolding part_of
   part_in x vs b o =
-      qed 𝓛 (‵ (cell_at full_share R.mir vs b o) ∷ ‵ (R.own x vs) ∷ []) ∵ fjoin ! $ fpack ! (List Val) (λ us. fsep (cell_at full_share R.mir us b o) (R.own x us)) vs $ done !
+      qed 𝓛 (‵ (cell_at full_share R.mir vs b o) ∷ ‵ (R.own_val x vs) ∷ []) ∵ fjoin ! $ fpack ! (List Val) (λ us. fsep (cell_at full_share R.mir us b o) (R.own_val x us)) vs $ done !
 
-  pub part_out : (x : R.Denot) (b o : ℕ) → ent 𝓤 (sem 𝓛 (part_at R full_share x b o)) (mean 𝓛 (some (λ (vs : List Val). ‵ (cell_at full_share R.mir vs b o) ⊛ ‵ (R.own x vs))))
+  pub part_out : (x : R.Denot) (b o : ℕ) → ent 𝓤 (sem 𝓛 (part_at R full_share x b o)) (mean 𝓛 (some (λ (vs : List Val). ‵ (cell_at full_share R.mir vs b o) ⊛ ‵ (R.own_val x vs))))
   unfolding part_of
   part_out x b o =
-      qed 𝓛 (‵ (part_at R full_share x b o) ∷ []) ∵ fpick ! (λ vs. fsplit ! $ show ! (λ (us : List Val). mean 𝓛 (‵ (cell_at full_share R.mir us b o) ⊛ ‵ (R.own x us))) vs $ done !)
+      qed 𝓛 (‵ (part_at R full_share x b o) ∷ []) ∵ fpick ! (λ vs. fsplit ! $ show ! (λ (us : List Val). mean 𝓛 (‵ (cell_at full_share R.mir us b o) ⊛ ‵ (R.own_val x us))) vs $ done !)
 
   module _ (n : ℕ) (b o : ℕ) where
     abbrev at-list : GName → List R.Denot → MutBor (List R.Denot)

@@ -1,5 +1,5 @@
 -- The outcomes that document 01 gives a submission, and that it gives no other, whatever it is asked.
-use Rattle.std.specs.Prelude.{ℕ, ◌≡◌, refl, Bool, true, false, ◌||◌, List, [], ◌∷◌, eqb}
+use Rattle.std.specs.Prelude.{ℕ, ◌≡◌, refl, Bool, true, false, ◌||◌, ◌∷◌, eqb}
 use Rattle.std.proofs.Common.{sym, ap, ◌∙◌, arith, eqb-true, ne_eqb}
 use Rattle.words.specs.Lists.{pick}
 use Rattle.pool_types.specs.declared.ProcessingOutcome.TheVariants.{Declined}

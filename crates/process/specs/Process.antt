@@ -9,7 +9,7 @@ use Rattle.pool_types.specs.declared.Source.{Source}
 use Rattle.pool_types.specs.declared.Source.TheVariants.{Local, Peer}
 use Rattle.pool_types.specs.declared.Verdict.{Verdict}
 use Rattle.pool_types.specs.declared.Verdict.TheVariants.{Valid, Invalid, Absent}
-use Rattle.pool_types.specs.Outcomes.{Outcome, refused, needed}
+use Rattle.pool_types.specs.Outcomes.{refused, needed}
 use Rattle.expiring_cache.specs.Cache.{remember}
 use Rattle.peers.specs.Peers.{standing, charge_peer}
 use Rattle.peers.specs.declared.PeerRecord.{PeerRecord}
