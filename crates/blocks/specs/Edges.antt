@@ -22,45 +22,36 @@ use Rattle.blocks.specs.Blocks.{Confirmed, Progress, recorded, confirm_one, driv
 abbrev sample : ℕ → ℕ → Entry
 sample k w = record { id = k; weight = w; base = w; size = 0; cost = 0; validation_cost = Unmeasured; created = 1000; last_checked = 0; height_key = 0; inputs = 0 }
 
-abbrev none : Tables
+abbrev pub none : Tables
 none = record { entries = []; boxes = [] }
 
 abbrev one : Tables
 one = insert_tx (sample 1 30) (7 ∷ []) (8 ∷ []) none
 
-abbrev two : Tables
+abbrev pub two : Tables
 two = insert_tx (sample 2 20) (9 ∷ []) [] one
 
-abbrev three : Tables
+abbrev pub three : Tables
 three = insert_tx (sample 3 10) (8 ∷ []) [] two
 
-abbrev tx : ℕ → List ℕ → Confirmed
+abbrev pub tx : ℕ → List ℕ → Confirmed
 tx k bs = record { id = k; inputs = bs }
 
 -- a block at 61,000 on such a pool, with no statistics before
-abbrev of : List Confirmed → Tables → Progress
+abbrev pub of : List Confirmed → Tables → Progress
 of ts t = applied_txs 61000 ts (record { tables = t; stats = fresh 61000; removed = [] })
 
-abbrev left : Tables → FeeStats → List ℕ → Progress
+abbrev pub left : Tables → FeeStats → List ℕ → Progress
 left t s ks = record { tables = t; stats = s; removed = ks }
 
 -- the statistics of a confirmation after 60,000 ms: bin 1
-abbrev after : ℕ → FeeStats
+abbrev pub after : ℕ → FeeStats
 after base = confirmed 60000 (fresh 61000) 61000 1000 base
 
 -- a transaction that is listed twice is confirmed once; one that is not pooled is not confirmed at all
 twice : (of (tx 1 (7 ∷ []) ∷ tx 1 (7 ∷ []) ∷ []) one ≡ left none (after 30) (1 ∷ [])) × (of (tx 5 [] ∷ []) one ≡ left one (fresh 61000) [])
 unfolding applied_txs confirm_one drive_out rivals spent recorded confirmed counted binned fresh ahead
 twice = (refl, refl)
-
--- the confirmed one stands before those that it drives out, which are no confirmations: one count and its base in bin 1; and the inputs are those
--- that the block lists, not those of the pooled one
-order : (of (tx 2 (7 ∷ []) ∷ []) two ≡ left none (after 20) (2 ∷ 1 ∷ []))
-    × ((of (tx 2 (7 ∷ []) ∷ []) two).stats.taken ≡ 1)
-    × ((of (tx 1 (8 ∷ 9 ∷ []) ∷ []) three).removed ≡ 1 ∷ 3 ∷ 2 ∷ [])
-    × ((of (tx 1 [] ∷ tx 2 (7 ∷ 8 ∷ []) ∷ []) three).removed ≡ 1 ∷ 2 ∷ 3 ∷ [])
-unfolding applied_txs confirm_one drive_out rivals spent recorded confirmed counted binned fresh ahead
-order = (refl, refl, refl, refl)
 
 -- a double-spend alone leaves the statistics as they were, and an input that is listed twice drives out one
 rival : (of (tx 5 (7 ∷ []) ∷ []) one ≡ left none (fresh 61000) (1 ∷ [])) × ((of (tx 5 (7 ∷ 7 ∷ []) ∷ []) two).removed ≡ 1 ∷ [])

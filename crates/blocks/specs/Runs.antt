@@ -1,29 +1,28 @@
 -- A block from one confirmation to the next. The code on plain words keeps no statistics: it tells what is to be recorded, and what is said of it here
 -- holds for all statistics and at each time.
-use Rattle.std.specs.Prelude.{ℕ, suc, ◌+◌, ◌-◌, ◌*◌, ◌/◌, ◌≤◌, ◌<◌, ◌≡◌, Bool, true, false, List, [], ◌∷◌, ◌++◌, eqb, length}
+use Rattle.std.specs.Prelude.{ℕ, suc, ◌+◌, ◌-◌, ◌/◌, ◌≤◌, ◌<◌, ◌≡◌, Bool, true, false, List, [], ◌∷◌, ◌++◌, eqb, length}
 use Rattle.std.proofs.Math.Path.{refl}
 use Rattle.std.proofs.Common.{sym, ap, ◌∙◌, arith, eqb-true}
 use Rattle.std.proofs.lemmas.Bool.{eqb-false}
 use Rattle.words.specs.Lists.{pick}
 use Rattle.words.specs.Find.{found}
 use Rattle.words.specs.Sums.{cap}
-use Rattle.words.specs.Ids.{id_at}
 use Rattle.pool_types.specs.declared.Mempool.{Mempool}
 use Rattle.pool_types.specs.declared.BlockOutcome.TheVariants.{Removed, NotApplied}
-use Rattle.arguments.specs.Arguments.{records, field}
+use Rattle.arguments.specs.Arguments.{records}
 use Rattle.expiring_cache.specs.Layout.{CacheOk, CacheKept, Pruned}
 use Rattle.stats.specs.Stats.{confirmed}
 use Rattle.stats.specs.declared.FeeStats.{FeeStats}
 use Rattle.entries.specs.Entries.{Entry, pooled, place_of}
 use Rattle.entries.specs.Laws.{at_place, no_place, place-fits}
-use Rattle.entries.specs.Layout.{entry_at, entries_of, entries, EntriesKept}
+use Rattle.entries.specs.Layout.{entry_at, entries_of, entries}
 use Rattle.entries.specs.declared.table.Place.TheVariants.{At, Nowhere}
 use Rattle.boxes.specs.Records.{index, lookup}
-use Rattle.pool.specs.Pool.{Tables, tables_of, PoolKept, remove_tx}
+use Rattle.pool.specs.Pool.{tables_of, PoolKept, remove_tx}
 use Rattle.answers.specs.Answers.{wrote_nothing}
 use Rattle.store.specs.Fits.{Testable, cache-fits}
-use Rattle.blocks.specs.Blocks.{Progress, recorded, confirm_one, drive_out, rivals, spent_one, spent, applied_tx, applied_txs, inputs_at, confirmed_of}
-use Rattle.blocks.specs.Steps.{Safe, Doing, Does, safe-after, safe-none, Agreed, later, agreed-none, agreed-more, later-none, later_more}
+use Rattle.blocks.specs.Blocks.{Progress, recorded, confirm_one, drive_out, rivals, spent_one, spent, applied_txs, confirmed_of}
+use Rattle.blocks.specs.Steps.{Safe, Doing, safe-none, Agreed, later, agreed-none, later-none}
 use Rattle.blocks.specs.Tests.{Passed, passed, code_of, code-none}
 use Rattle.blocks.specs.declared.Blocked.{Blocked}
 use Rattle.blocks.specs.declared.Removal.{Removal}
@@ -39,7 +38,7 @@ seen_of (e ∷ es) = record { hit = true; created = e.created; base = e.base }
 abbrev pub tallied : ℕ → Bool → ℕ → ℕ → FeeStats → FeeStats
 tallied time hit created base s = pick hit (confirmed 60000 s time created base) s
 
-recorded-seen : (time : ℕ) (es : List Entry) (s : FeeStats) → recorded time es s ≡ tallied time (seen_of es).hit (seen_of es).created (seen_of es).base s
+pub recorded-seen : (time : ℕ) (es : List Entry) (s : FeeStats) → recorded time es s ≡ tallied time (seen_of es).hit (seen_of es).created (seen_of es).base s
 unfolding recorded seen_of
 recorded-seen time [] s = refl
 recorded-seen time (e ∷ es) s = refl
@@ -72,7 +71,7 @@ rivals-stats k (o ∷ os) m = go (eqb o k)
     go true = refl
     go false = drive-stats o m
 
-spent-stats : (k : ℕ) (bs : List ℕ) (m : Progress) → (spent k bs m).stats ≡ m.stats
+pub spent-stats : (k : ℕ) (bs : List ℕ) (m : Progress) → (spent k bs m).stats ≡ m.stats
 unfolding spent
 spent-stats k [] m = refl
 spent-stats k (b ∷ bs) m = spent-stats k bs (spent_one k b m) ∙ rivals-stats k (lookup (index false m.tables.boxes) b) m
@@ -85,7 +84,7 @@ unfound k (e ∷ es) h = go (eqb e.id k) (unfound k es) h
     go true ih q = let z : ◌≡◌ {A = ℕ} 0 1 = cc in absurd (omega arith)
     go false ih q = ih q
 
-confirm-stats : (time k : ℕ) (m : Progress) → (confirm_one time k m).stats ≡ recorded time (found (λ e. e.id) k m.tables.entries) m.stats
+pub confirm-stats : (time k : ℕ) (m : Progress) → (confirm_one time k m).stats ≡ recorded time (found (λ e. e.id) k m.tables.entries) m.stats
 unfolding confirm_one recorded
 confirm-stats time k m = go (pooled k m.tables.entries) refl
   where
@@ -95,11 +94,6 @@ confirm-stats time k m = go (pooled k m.tables.entries) refl
     go : (t : Bool) → pooled k m.tables.entries ≡ t → (pick t out m).stats ≡ recorded time (found (λ e. e.id) k m.tables.entries) m.stats
     go true q = refl
     go false q = rw (unfound k m.tables.entries q)
-
-applied-stats : (time k : ℕ) (bs : List ℕ) (m : Progress) (v : Seen) → v ≡ seen_of (found (λ e. e.id) k m.tables.entries)
-    → (applied_tx time k bs m).stats ≡ tallied time v.hit v.created v.base m.stats
-applied-stats time k bs m v q =
-    spent-stats k bs (confirm_one time k m) ∙ confirm-stats time k m ∙ recorded-seen time (found (λ e. e.id) k m.tables.entries) m.stats ∙ rw q
 
 -- ---- what `next` asks for, and what it does
 
@@ -139,46 +133,6 @@ pub record Passing (txs ins e b a : List ℕ) (g : Run) (e' b' a' : List ℕ) (r
 pub passing-none : {txs ins e b a : List ℕ} (g : Run) → Ready e b txs ins g → Passing txs ins e b a g e b a g.left g.at g.from
 passing-none g f =
     record { safe = f.safe; agreed = f.agreed; since = omega arith; sum = omega arith; goes = λ time a₀ m d. record { here = m; doing = d; stats = refl; same = refl } }
-
--- one transaction more, which was seen so
-module _ (txs ins : List ℕ) (i j to : ℕ) (h : i < records 5 txs) (q : to ≡ j + field 5 4 txs i) (k n : ℕ) (kq : k ≡ id_at txs (i * 5)) (nq : n ≡ field 5 4 txs i) {e b a e' b' a' e'' b'' a'' : List ℕ} {g : Run} {r r' : Removal} (v : Seen)
-    (vq : EntriesKept e' r.counts.pooled → v ≡ seen_of (found (λ x. x.id) k (entries_of e' r.counts.pooled))) (p : Passing txs ins e b a g e' b' a' r i j)
-    (d : (time : ℕ) → Does (applied_tx time k (inputs_at ins j n)) e' b' a' r e'' b'' a'' r') where
-  one-come : (time : ℕ) (a₀ : List ℕ) (m : Progress) → Doing e b a₀ a g.left m
-      → Come txs ins (i + 1) to time (tallied time v.hit v.created v.base m.stats) (later txs ins g.at g.from time m) e'' b'' a₀ a'' r'
-  one-come time a₀ m f =
-      let c = p.goes time a₀ m f in
-      record {
-        here = applied_tx time k (inputs_at ins j n) c.here;
-        doing = (d time).does a₀ c.here c.doing;
-        stats = applied-stats time k (inputs_at ins j n) c.here v (vq c.doing.kept.entries ∙ ap (λ (t : Tables). seen_of (found (λ x. x.id) k t.entries)) c.doing.tables) ∙ ap (tallied time v.hit v.created v.base) c.stats;
-        same = later_more txs ins i j to h q time k n kq nq c.here ∙ c.same;
-      }
-
-  -- it was not pooled
-  pub passing-more : v.hit ≡ false → Passing txs ins e b a g e'' b'' a'' r' (i + 1) to
-  passing-more z =
-      record {
-        safe = safe-after p.safe (d 0);
-        agreed = agreed-more txs ins i j to h q p.agreed;
-        since = omega (arith, p.since);
-        sum = omega (arith, (d 0).sum, p.sum);
-        goes = λ time a₀ m f. rw z at (one-come time a₀ m f);
-      }
-
-  -- it was: this is the next one
-  pub went-hit : {c b' : ℕ} → v.hit ≡ true → c ≡ v.created → b' ≡ v.base
-      → Went txs ins e b a g e'' b'' a'' (record { code = g.code; cached = g.cached; at = i + 1; from = to; left = r'; hit = true; created = c; base = b' })
-  went-hit z cq bq =
-      record {
-        code = refl;
-        cached = refl;
-        ready = record { safe = safe-after p.safe (d 0); agreed = agreed-more txs ins i j to h q p.agreed };
-        on = λ _. (omega (arith, p.since), omega arith);
-        ended = λ y. let w : ◌≡◌ {A = ℕ} 0 1 = cc in absurd (omega arith);
-        sum = omega (arith, (d 0).sum, p.sum);
-        goes = λ time a₀ m f. rw (cq, bq) (rw z at (one-come time a₀ m f));
-      }
 
 -- the end: none was
 pub went-end : {txs ins e b a e' b' a' : List ℕ} {g : Run} {r : Removal} {i j : ℕ} (c w : ℕ) → Passing txs ins e b a g e' b' a' r i j → records 5 txs ≤ i

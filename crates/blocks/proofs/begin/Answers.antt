@@ -5,7 +5,7 @@ use Rattle.blocks.specs.Runs.{run-refused, begin-cache, begin-ready, run-begun}
 use Rattle.blocks.proofs.begin.Goals as goal
 
 pub returns-then-code-ne0 : goal.returns-then-code-ne0
-returns-then-code-ne0 c = run-refused _ _ _ _ _ _ _ c.refusal-code.ensures c.fresh-start.ensures _ _ refl c.if-code-ne0.true
+returns-then-code-ne0 c = run-refused _ _ _ _ _ _ _ c.refusal-code.ensures c.fresh-start.ensures _ _ refl (λ z. c.if-code-ne0.true (rw z))
 
 pub prune-cached-requires : goal.prune-cached-requires
 prune-cached-requires c = begin-cache _ _ _ _ _ _ _ c.refusal-code.ensures c.fresh-start.ensures c.if-code-ne0.false

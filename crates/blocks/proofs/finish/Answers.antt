@@ -7,7 +7,7 @@ use Rattle.blocks.proofs.finish.Goals as goal
 
 pub returns-then-run-ne0 : goal.returns-then-run-ne0
 unfolding finished
-returns-then-run-ne0 c = sym (no _ _ _ (ne_eqb _ 0 c.if-run-ne0.true))
+returns-then-run-ne0 c = sym (no _ _ _ (ne_eqb c.args.run.code 0 (λ z. c.if-run-ne0.true (rw z))))
 
 pub returns : goal.returns
 unfolding finished

@@ -1,7 +1,7 @@
 -- `blocks::next` meets its contract. The loop's invariant: none was pooled so far, and the transactions that are left, over where we are, give what all of them give over where we began (`Passing`). Assumes nothing.
 use native.Mathlib.Omega.{arith}
 use mathlib.Core.Path.{refl}
-use Rattle.blocks.specs.Runs.{passing-more, went-hit}
+use Rattle.blocks.proofs.RunsLaws.{passing-more, went-hit}
 use Rattle.blocks.proofs.next.Goals as goal
 
 pub returns-then-seen : goal.returns-then-seen

@@ -1,0 +1,2 @@
+pub mod EdgesLaws
+pub mod RunsLaws
