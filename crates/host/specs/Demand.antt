@@ -13,8 +13,8 @@ use Rattle.peers.specs.declared.PeerRecord.{PeerRecord}
 use Rattle.mempool.specs.Start.{Sizes, sized, settled, empty, started}
 use Rattle.ledger.specs.Ledger.{Call, Submit, Return, Block, Invalidate, Open, Next, Answer, Heard}
 use Rattle.ledger.specs.Run.{Moment, moment, sizes_at}
-use Rattle.ledger.specs.Steps.{submit-step, return-step, block-step, invalidate-step, open_step, next-step, answer-step}
-use Rattle.ledger.specs.Theorem.{Told, start-begins, told-begin, told-call, told-demand3}
+use Rattle.ledger.proofs.Steps.{submit-step, return-step, block-step, invalidate-step, open_step, next-step, answer-step}
+use Rattle.ledger.proofs.Theorem.{Told, start-begins, told-begin, told-call, told-demand3}
 use Rattle.ledger.specs.Demand3.{Demand3}
 use Rattle.host.specs.State.{config_of, state_of, submission_of}
 use Rattle.host.specs.Statistics.{stats_of}

@@ -26,7 +26,7 @@ use Rattle.console.specs.declared.calls.Change.{Change}
 use Rattle.console.specs.declared.calls.Change.TheVariants.{Submit, Return, Block, Invalidate, Open, Next, Answer}
 use Rattle.ledger.specs.Ledger.{Heard}
 use Rattle.ledger.specs.Run.{Moment, moment, world_at, KeptAt, pass_at, Became, Becomes, Step, Begun}
-use Rattle.ledger.specs.Theorem.{Told, accepted-start, empty-world, empty-pass, told-begin, told-call, told-still, told-demand3}
+use Rattle.ledger.proofs.Theorem.{Told, accepted-start, empty-world, empty-pass, told-begin, told-call, told-still, told-demand3}
 use Rattle.ledger.specs.Demand3.{Demand3}
 use Rattle.poolrun.specs.Input as input
 use Rattle.poolrun.specs.Input.{Words, State, at_start, added, Answered, adds, ends, Fed, none, more, ended, Finished, between, last, Turn, over, some, Served, unread, reads}

@@ -28,8 +28,8 @@ use Rattle.blocks.specs.Blocks.{settled as cleared}
 use Rattle.ledger.specs.Book.{tx_weight}
 use Rattle.ledger.specs.Ledger.{Submit, Block, Heard, told, charge_for, enters_submission, turned_away, hears_submission, mined, ledger}
 use Rattle.ledger.specs.Run.{world_at, limits_at, Step, Run, begin, call}
-use Rattle.ledger.specs.Theorem.{start-begins, demand3}
-use Rattle.ledger.specs.WitnessStore.{i, small, plain, settings, state_of, with, Stands, w0, w1, w2, w3, w4, w5, s0, s1, s2, s3, s4, s5}
+use Rattle.ledger.proofs.Theorem.{start-begins, demand3}
+use Rattle.ledger.proofs.WitnessStore.{i, small, plain, settings, state_of, with, Stands, w0, w1, w2, w3, w4, w5, s0, s1, s2, s3, s4, s5}
 
 -- ---- the arguments: a transaction k of 1,024 bytes, of one input and one output, which is a fee
 

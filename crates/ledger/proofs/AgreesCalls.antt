@@ -23,14 +23,14 @@ use Rattle.returns.specs.Returns.{return_refusal, returned_entry, returned, inva
 use Rattle.returns.specs.declared.UnconfirmedTx.{UnconfirmedTx}
 use Rattle.blocks.specs.Blocks.{Confirmed, confirmed_of, Progress, begun, BlockResult, applied_txs, block_refusal, settled, applied}
 use Rattle.ledger.specs.Book.{Book, leaves}
-use Rattle.ledger.specs.Same.{SameBook}
-use Rattle.ledger.specs.SameLaws.{same-enter, same-remove}
-use Rattle.ledger.specs.SameBlocks.{same-applied}
-use Rattle.ledger.specs.SameCharges.{same_none}
-use Rattle.ledger.specs.Admissions.{base-low}
+use Rattle.ledger.proofs.Same.{SameBook}
+use Rattle.ledger.proofs.SameLaws.{same-enter, same-remove}
+use Rattle.ledger.proofs.SameBlocks.{same-applied}
+use Rattle.ledger.proofs.SameCharges.{same_none}
+use Rattle.ledger.proofs.Admissions.{base-low}
 use Rattle.ledger.specs.Ledger.{Return, Block, Invalidate, Ledger, with_book, is_refused, enters_return, confirms_all, mined}
 use Rattle.ledger.specs.Run.{Moment, world_at, pass_kept, Step}
-use Rattle.ledger.specs.Agrees.{SameWorld, Agrees, became-agrees}
+use Rattle.ledger.proofs.Agrees.{SameWorld, Agrees, became-agrees}
 
 -- ---- a return
 

@@ -33,15 +33,15 @@ use Rattle.checks.specs.Passed.{Passed, Welcome, passed, unpooled}
 use Rattle.admit.specs.Admit.{Admitted, cost_of, admit_spec}
 use Rattle.process.specs.Process.{standing_of, admitted, judged, processed}
 use Rattle.ledger.specs.Charges.{charges, total_charged, charged_to}
-use Rattle.ledger.specs.SameCharges.{Below, same-charge}
-use Rattle.ledger.specs.ChargeRefusals.{met-limit}
+use Rattle.ledger.proofs.SameCharges.{Below, same-charge}
+use Rattle.ledger.proofs.ChargeRefusals.{met-limit}
 use Rattle.ledger.specs.Ledger.{Submit, Ledger, visit_cap, charge_for, turned_away, hears_submission}
-use Rattle.ledger.specs.Admissions.{cost-is, Settles, admission-same}
-use Rattle.ledger.specs.Limited.{submission-limits}
+use Rattle.ledger.proofs.Admissions.{cost-is, Settles, admission-same}
+use Rattle.ledger.proofs.Limited.{submission-limits}
 use Rattle.ledger.specs.Demand3.{FailsExactly}
 use Rattle.ledger.specs.Run.{Moment, world_at, limits_at, pass_kept, Step}
-use Rattle.ledger.specs.Steps.{fits-pool, used-is}
-use Rattle.ledger.specs.Agrees.{Bounds, SameWorld, Agrees, became-agrees}
+use Rattle.ledger.proofs.Steps.{fits-pool, used-is}
+use Rattle.ledger.proofs.Agrees.{Bounds, SameWorld, Agrees, became-agrees}
 
 -- ---- the numbers that the tests give charge nobody
 

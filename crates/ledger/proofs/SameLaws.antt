@@ -17,9 +17,9 @@ use Rattle.pool.specs.Pool.{Tables, insert_tx, remove_tx, remove_all}
 use Rattle.pool.specs.Laws.{away-none}
 use Rattle.pool.specs.Ok.{Ok}
 use Rattle.ledger.specs.Book.{Tx, Book, book, tx_weight, enters_pairs, leaves_pairs, enters, leaves, all_leave, ins_of, outs_of}
-use Rattle.ledger.specs.Same.{Brief, brief_of, view_of, SameBook}
-use Rattle.ledger.specs.Uses.{ids, keep-uses, own, unowned, drop-none}
-use Rattle.ledger.specs.Views.{sorted-view}
+use Rattle.ledger.proofs.Same.{Brief, brief_of, view_of, SameBook}
+use Rattle.ledger.proofs.Uses.{ids, keep-uses, own, unowned, drop-none}
+use Rattle.ledger.proofs.Views.{sorted-view}
 
 -- the order reads these of what both know
 abbrev weighs : Brief → ℕ

@@ -6,8 +6,8 @@ use Rattle.pool_types.specs.Outcomes.{Outcome, Reading, reading_of}
 use Rattle.store.specs.World.{World}
 use Rattle.cleanup.specs.Passes.{PassNow, PassResult}
 use Rattle.ledger.specs.Charges.{Fair}
-use Rattle.ledger.specs.Same.{SameBook}
-use Rattle.ledger.specs.SameCharges.{SameCharges}
+use Rattle.ledger.proofs.Same.{SameBook}
+use Rattle.ledger.proofs.SameCharges.{SameCharges}
 use Rattle.ledger.specs.Ledger.{Ledger}
 use Rattle.ledger.specs.Run.{Moment, world_at, KeptAt, pass_at, Becomes}
 

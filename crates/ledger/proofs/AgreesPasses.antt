@@ -15,12 +15,12 @@ use Rattle.pool.specs.Pool.{remove_tx}
 use Rattle.store.specs.World.{World}
 use Rattle.cleanup.specs.Passes.{PassNow, PassResult, still, opened, first_due, sought, nexted, offered, answer_refusal, lacks_input, goes, answered_with, weighed, answered}
 use Rattle.ledger.specs.Book.{all_leave}
-use Rattle.ledger.specs.Same.{SameBook}
-use Rattle.ledger.specs.SameLaws.{same-remove, same-stamped}
+use Rattle.ledger.proofs.Same.{SameBook}
+use Rattle.ledger.proofs.SameLaws.{same-remove, same-stamped}
 use Rattle.ledger.specs.Ledger.{Open, Next, Answer, Ledger, gives_next, failed}
 use Rattle.ledger.specs.Run.{Moment, world_at, pass_at, Becomes, Step}
-use Rattle.ledger.specs.Agrees.{SameWorld, Recalls, Agrees, Tallies, became-agrees}
-use Rattle.ledger.specs.AgreesCalls.{zero-not}
+use Rattle.ledger.proofs.Agrees.{SameWorld, Recalls, Agrees, Tallies, became-agrees}
+use Rattle.ledger.proofs.AgreesCalls.{zero-not}
 
 -- no candidate is out
 false-true : {A : Type 0} → false ≡ true → A

@@ -25,8 +25,8 @@ use Rattle.boxes.specs.Index as B
 use Rattle.pool.specs.Pool.{PoolFits}
 use Rattle.store.specs.World.{World, world}
 use Rattle.ledger.specs.Run.{Moment, moment, world_at, KeptAt}
-use Rattle.ledger.specs.Steps.{kept-made}
-use Rattle.ledger.specs.WitnessTests.{box_index, boxes-kept, entry_index, slots_right, in_order, each_once, entries-kept}
+use Rattle.ledger.proofs.Steps.{kept-made}
+use Rattle.ledger.proofs.WitnessTests.{box_index, boxes-kept, entry_index, slots_right, in_order, each_once, entries-kept}
 
 -- ---- ids
 

@@ -8,8 +8,8 @@ use Rattle.boxes.specs.Records.{index, lookup, drop_owner}
 use Rattle.pool.specs.Pool.{Tables, remove_tx}
 use Rattle.blocks.specs.Blocks.{Progress, recorded, confirm_one, drive_out, rivals, spent, spent_one, applied_tx}
 use Rattle.ledger.specs.Book.{Book, leaves, rival_leaves, rivals_leave, confirms}
-use Rattle.ledger.specs.Same.{SameBook}
-use Rattle.ledger.specs.SameLaws.{same-remove}
+use Rattle.ledger.proofs.Same.{SameBook}
+use Rattle.ledger.proofs.SameLaws.{same-remove}
 
 -- a removal of one that is not pooled changes nothing, so that a second test makes no difference
 twice : (k : ℕ) (p : Progress) → pick (pooled k p.tables.entries) (remove_tx k p.tables) p.tables ≡ remove_tx k p.tables

@@ -11,11 +11,11 @@ use Rattle.boxes.specs.Among.{among, among-cons}
 use Rattle.boxes.specs.Records.{BoxRec, Pair, same, index, lookup, inputs_of, outputs_of}
 use Rattle.pool.specs.Pool.{Tables}
 use Rattle.ledger.specs.Book.{Tx, Book, tx_weight, ins_of, outs_of, in_book}
-use Rattle.ledger.specs.Same.{Brief, brief_of, view_of, SameBook}
-use Rattle.ledger.specs.Uses.{ids, inputs-in-book, outputs-in-book}
-use Rattle.ledger.specs.Views.{found-sort}
-use Rattle.ledger.specs.SameLaws.{count_same, pool-once, pool-order}
-use Rattle.ledger.specs.SameMoves.{size_same}
+use Rattle.ledger.proofs.Same.{Brief, brief_of, view_of, SameBook}
+use Rattle.ledger.proofs.Uses.{ids, inputs-in-book, outputs-in-book}
+use Rattle.ledger.proofs.Views.{found-sort}
+use Rattle.ledger.proofs.SameLaws.{count_same, pool-once, pool-order}
+use Rattle.ledger.proofs.SameMoves.{size_same}
 
 -- ---- an id is pooled, or in the book, where it stands among the ids
 

@@ -18,8 +18,8 @@ use Rattle.checks.specs.Checks.{remote, peer_refusal}
 use Rattle.admit.specs.Admit.{charged_sum}
 use Rattle.process.specs.Process.{standing_of}
 use Rattle.ledger.specs.Charges.{Charge, charges, total_charged, charged_to, payers}
-use Rattle.ledger.specs.ChargeLaws.{paid, payers-are, unpaid-none}
-use Rattle.ledger.specs.SameCharges.{SameCharges, Below, same-room}
+use Rattle.ledger.proofs.ChargeLaws.{paid, payers-are, unpaid-none}
+use Rattle.ledger.proofs.SameCharges.{SameCharges, Below, same-room}
 
 -- 24
 abbrev pub block_full : ℕ → List Charge → Bool

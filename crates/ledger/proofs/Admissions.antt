@@ -22,10 +22,10 @@ use Rattle.boxes.specs.Records.{index, conflicts, drop_owner}
 use Rattle.pool.specs.Pool.{Tables, remove_tx, remove_all, evict}
 use Rattle.admit.specs.Admit.{Admitted, loses, crowded, newcomer, joined, settled, seated, contested, admit_spec, base_of, cost_of}
 use Rattle.ledger.specs.Book.{losers_leave, walks}
-use Rattle.ledger.specs.Same.{SameBook}
-use Rattle.ledger.specs.SameLaws.{same-enter}
-use Rattle.ledger.specs.SameLosers.{same-losers}
-use Rattle.ledger.specs.SameMoves.{same-propagated, same-evict}
+use Rattle.ledger.proofs.Same.{SameBook}
+use Rattle.ledger.proofs.SameLaws.{same-enter}
+use Rattle.ledger.proofs.SameLosers.{same-losers}
+use Rattle.ledger.proofs.SameMoves.{same-propagated, same-evict}
 use Rattle.ledger.specs.Ledger.{Ledger, with_book, visit_cap, verdict_cost, submitted_cost, submitted_base, charge_for, entered, enters_submission, turned_away, hears_submission}
 
 -- ---- a base is a number of 64 bits

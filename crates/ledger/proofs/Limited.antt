@@ -26,9 +26,9 @@ use Rattle.checks.specs.Checks.{dear, remote, first, call_refusal, peer_refusal,
 use Rattle.admit.specs.Admit.{Admitted, loses, crowded, settled, seated, contested, admit_spec}
 use Rattle.process.specs.Process.{Limits, standing_of, judged, unless_refused, processed}
 use Rattle.ledger.specs.Charges.{Charge, total_charged, charged_to, payers}
-use Rattle.ledger.specs.ChargeLaws.{payers-are, unpaid-none}
-use Rattle.ledger.specs.SameCharges.{SameCharges}
-use Rattle.ledger.specs.ChargeRefusals.{charge_refusal, refusal_is}
+use Rattle.ledger.proofs.ChargeLaws.{payers-are, unpaid-none}
+use Rattle.ledger.proofs.SameCharges.{SameCharges}
+use Rattle.ledger.proofs.ChargeRefusals.{charge_refusal, refusal_is}
 use Rattle.ledger.specs.Demand3.{refused_by, earlier, FailsExactly}
 
 false-true : {A : Type 0} → false ≡ true → A

@@ -33,23 +33,23 @@ use Rattle.expiring_cache.specs.Layout.{no_rows}
 use Rattle.peers.specs.declared.PeerRecord.{PeerRecord}
 use Rattle.mempool.specs.Start.{Sizes, sized, settled, within, empty, started}
 use Rattle.ledger.specs.Book.{Tx, Book, ins_of, outs_of}
-use Rattle.ledger.specs.ChargeLaws.{in-among}
-use Rattle.ledger.specs.Same.{Brief, brief_of, view_of, SameBook}
-use Rattle.ledger.specs.SameLaws.{same_none as book-none}
-use Rattle.ledger.specs.SameLaws.{same_ok}
+use Rattle.ledger.proofs.ChargeLaws.{in-among}
+use Rattle.ledger.proofs.Same.{Brief, brief_of, view_of, SameBook}
+use Rattle.ledger.proofs.SameLaws.{same_none as book-none}
+use Rattle.ledger.proofs.SameLaws.{same_ok}
 use Rattle.admit.specs.Admit.{admit_spec}
 use Rattle.admit.specs.Placed.{placed}
-use Rattle.ledger.specs.SameCharges.{same_none as charges-none}
-use Rattle.ledger.specs.Readings.{Named, found-same, ids-once, in-strict-order, length-same, pooled-same, weights-same, inputs-same, outputs-same, named-spender, named-producer}
-use Rattle.ledger.specs.BookCredits.{credits-for-chains}
+use Rattle.ledger.proofs.SameCharges.{same_none as charges-none}
+use Rattle.ledger.proofs.Readings.{Named, found-same, ids-once, in-strict-order, length-same, pooled-same, weights-same, inputs-same, outputs-same, named-spender, named-producer}
+use Rattle.ledger.proofs.BookCredits.{credits-for-chains}
 use Rattle.ledger.specs.Ledger.{Call, Submit, Return, Block, Invalidate, Open, Next, Answer, Start, Ask, Ledger, Heard, told, enters_submission, hears_submission, ledger, visit_cap}
 use Rattle.ledger.specs.Run.{Moment, moment, world_at, KeptAt, pass_at, sizes_at, Becomes, Step, nothing, Begun, Run, begin, call}
-use Rattle.ledger.specs.Steps.{kept-made}
+use Rattle.ledger.proofs.Steps.{kept-made}
 use Rattle.ledger.specs.Demand3.{Known, pooled_as, held_as, Names, CreditsChains, FailsExactly, OfSubmit, EverySubmission, Demand3}
-use Rattle.ledger.specs.Agrees.{Bounds, SameWorld, Recalls, Agrees}
-use Rattle.ledger.specs.AgreesSubmission.{submission-agrees, submission-fails}
-use Rattle.ledger.specs.AgreesCalls.{return-agrees, invalidation-agrees, block-agrees}
-use Rattle.ledger.specs.AgreesPasses.{open-agrees, next-agrees, answer-agrees, still-agrees}
+use Rattle.ledger.proofs.Agrees.{Bounds, SameWorld, Recalls, Agrees}
+use Rattle.ledger.proofs.AgreesSubmission.{submission-agrees, submission-fails}
+use Rattle.ledger.proofs.AgreesCalls.{return-agrees, invalidation-agrees, block-agrees}
+use Rattle.ledger.proofs.AgreesPasses.{open-agrees, next-agrees, answer-agrees, still-agrees}
 
 -- ---- one call
 

@@ -12,7 +12,7 @@ use Rattle.pool.specs.Pool.{Tables, insert_tx, remove_tx, evict}
 use Rattle.family.specs.Family.{propagated}
 use Rattle.returns.specs.declared.UnconfirmedTx.{UnconfirmedTx}
 use Rattle.ledger.specs.Book.{Book, book, tx_weight, enters, leaves, walks, evicts}
-use Rattle.ledger.specs.Same.{Brief, brief_of, view_of, in_order}
+use Rattle.ledger.proofs.Same.{Brief, brief_of, view_of, in_order}
 use Rattle.ledger.specs.Ledger.{Ledger, empty_ledger, Block, ledger, enters_return, mined}
 use Rattle.ledger.specs.Demand3.{PriorityOrder}
 

@@ -8,8 +8,8 @@ use Rattle.boxes.specs.Among.{eqb_comm}
 use Rattle.boxes.specs.Records.{Pair, index, lookup, conflicts, once, dedup}
 use Rattle.pool.specs.Pool.{Tables, remove_all}
 use Rattle.ledger.specs.Book.{Tx, Book, book, leaves, all_leave, losers_leave}
-use Rattle.ledger.specs.Same.{SameBook}
-use Rattle.ledger.specs.SameLaws.{same-remove-all}
+use Rattle.ledger.proofs.Same.{SameBook}
+use Rattle.ledger.proofs.SameLaws.{same-remove-all}
 
 abbrev outside : List ℕ → ℕ → Bool
 outside ks x = eqb (count x ks) 0

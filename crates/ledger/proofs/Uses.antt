@@ -6,7 +6,7 @@ use Rattle.words.specs.Lists.{pick, keep, count, Once, once-head, once-tail, cou
 use Rattle.boxes.specs.Records.{BoxRec, same, inputs_of, drop_owner, outputs_of}
 use Rattle.boxes.specs.IndexLaws.{Use, uses, the, Unowned}
 use Rattle.ledger.specs.Book.{Tx, ins_of, outs_of}
-use Rattle.ledger.specs.Same.{uses_of_tx, uses_in}
+use Rattle.ledger.proofs.Same.{uses_of_tx, uses_in}
 
 abbrev pub ids : List Tx → List ℕ
 ids ts = map (λ t. t.id) ts

@@ -15,10 +15,10 @@ use Rattle.pool.specs.Ok.{low-remove}
 use Rattle.family.specs.Family.{propagated}
 use Rattle.family.specs.Chains.{walked}
 use Rattle.ledger.specs.Book.{Tx, Book, book, tx_weight, leaves, credit_tx, credits_to, parents_in, walks, lowest_id, trims, evicts}
-use Rattle.ledger.specs.Same.{Brief, brief_of, view_of, uses_in, SameBook}
-use Rattle.ledger.specs.Uses.{ids, inputs-in-book}
-use Rattle.ledger.specs.Views.{sort-view, lowest-last, sort_txs}
-use Rattle.ledger.specs.SameLaws.{pool-order, same_ok, same-remove}
+use Rattle.ledger.proofs.Same.{Brief, brief_of, view_of, uses_in, SameBook}
+use Rattle.ledger.proofs.Uses.{ids, inputs-in-book}
+use Rattle.ledger.proofs.Views.{sort-view, lowest-last, sort_txs}
+use Rattle.ledger.proofs.SameLaws.{pool-order, same_ok, same-remove}
 
 abbrev weighs : Brief → ℕ
 weighs x = x.weight
