@@ -1,9 +1,9 @@
 -- What the functions of tidy's loop promise, over the definitions of Input, and the laws that their proofs cite.
-use Rattle.std.specs.Prelude.{ℕ, suc, ◌+◌, ◌-◌, ◌≤◌, ◌<◌, min, ◌≡◌, refl, Bool, true, false, List, [], ◌∷◌, ◌++◌, length, take, drop, set, get_or, leb, None}
-use Rattle.std.proofs.Common.{sym, ap, ap₂, subst, ◌∙◌, true≢false, append_assoc, append-nil, add-one, arith, length-take, length-append, length-drop, length-set, take_all, take-suc, take-suc-set, take_at, leb-true, leb-false}
+use Rattle.std.specs.Prelude.{ℕ, suc, ◌+◌, ◌-◌, ◌≤◌, ◌<◌, min, ◌≡◌, refl, Bool, true, false, List, [], ◌∷◌, ◌++◌, length, take, set, get_or, leb, None}
+use Rattle.std.proofs.Common.{sym, ap, subst, ◌∙◌, true≢false, append_assoc, append-nil, add-one, arith, length-take, length-append, length-set, take_all, take-suc, take-suc-set, leb-true, leb-false}
 use Rattle.words.specs.Sums.{cap}
-use Rattle.forms.specs.Nums.{Prints, over}
-use Rattle.replies.specs.ReplyLaws.{line-is, line-fits}
+use Rattle.forms.specs.Nums.{Prints}
+use Rattle.replies.specs.ReplyLaws.{line-is}
 use Rattle.spelling.specs.File.{input_of}
 use Rattle.spelling.specs.Tidied.{Tidied, Tidies, tidied-short}
 use Rattle.std.specs.Io.KnownBytes.{IsAtEnd}

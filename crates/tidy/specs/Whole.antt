@@ -1,13 +1,12 @@
 -- THEOREM `served-file`: what tidy writes of an input that has ended is the whole input, tidied. `tidies-input`: and where the bytes of the input and of the
 -- output are known, so is the output's text of all that was to be read.
-use Rattle.std.specs.Prelude.{ℕ, ◌+◌, ◌<◌, ◌≤◌, ◌≡◌, Bool, true, false, List, [], ◌∷◌, ◌++◌, length, None, Some}
+use Rattle.std.specs.Prelude.{ℕ, ◌<◌, ◌≤◌, ◌≡◌, true, false, List, [], ◌∷◌, ◌++◌, length, None, Some}
 use Rattle.std.proofs.Math.Path.{refl, subst}
-use Rattle.std.proofs.Common.{sym, ap, ap₂, ◌∙◌, append_assoc, append-nil, arith}
+use Rattle.std.proofs.Common.{sym, ap, ◌∙◌, append_assoc, append-nil, arith}
 use Rattle.std.proofs.Math.ListN.{length-append}
-use Rattle.forms.specs.Text.{Members, Line}
+use Rattle.forms.specs.Text.{Line}
 use Rattle.forms.specs.TextLaws.{true-false, by_bool}
-use Rattle.lines.specs.Forms.{is_read, form_of}
-use Rattle.spelling.specs.Tidied.{Tidied, read, kept}
+use Rattle.spelling.specs.Tidied.{Tidied, kept}
 use Rattle.spelling.specs.File as F
 use Rattle.std.specs.Io.KnownBytes.{Appends}
 use Rattle.streams.specs.Laws.{taken-front, taken-whole}
@@ -15,7 +14,7 @@ use Rattle.streams.specs.Streams.{Stand}
 use Rattle.words.specs.Sums.{cap}
 use Rattle.spelling.specs.File.{File, Clean, clean-join, input_of}
 use Rattle.tidy.specs.Input as I
-use Rattle.tidy.specs.Loop.{fed-join, step-over, fed-over, Serves}
+use Rattle.tidy.specs.Loop.{fed-join, fed-over, Serves}
 use Rattle.tidy.specs.Input.{State, at_start, grown, spilled, begun, Ending, whole, rest, Step, adds, spills, ends, Fed, none, more, ended, Finished, last, Turn, some, Served, unread, reads}
 
 -- the bytes of the line in progress, those written (`sent`) first
