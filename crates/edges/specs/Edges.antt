@@ -1,21 +1,18 @@
 -- Document 01, "Each edge (* proved)": the starred cases as one table, and one theorem that computes over it. A row has what the definitions give
 -- and what document 01 says; a yes is 1, a no is 0.
-use Rattle.std.specs.Prelude.{ℕ, zero, suc, ◌+◌, ◌*◌, ◌≡◌, refl, Bool, true, false, ◌&&◌, List, [], ◌∷◌, get_or, replicate, eqb}
-use Rattle.std.proofs.Common.{arith, eqb-true}
+use Rattle.std.specs.Prelude.{ℕ, ◌+◌, ◌*◌, Bool, true, false, ◌&&◌, List, [], ◌∷◌, get_or, replicate, eqb}
 use Rattle.words.specs.Sums.{cap}
-use Rattle.words.specs.declared.ids.Id.{Id}
 use Rattle.pool_types.specs.declared.FeeStrategy.TheVariants.{FeePerByte, FeePerCycle}
 use Rattle.pool_types.specs.declared.Submission.{Submission}
 use Rattle.pool_types.specs.declared.Source.TheVariants.{Local}
 use Rattle.pool_types.specs.declared.Verdict.TheVariants.{Absent}
 use Rattle.weight.specs.Weight.{fee_per_factor}
 use Rattle.arguments.specs.Arguments.{max_inputs, biased, ahead_of}
-use Rattle.expiring_cache.specs.Cache.{Held, held}
+use Rattle.expiring_cache.specs.Cache.{held}
 use Rattle.stats.specs.declared.FeeStats.{FeeStats}
-use Rattle.stats.specs.Stats.{fresh, confirmed, counted, binned, wait_for}
+use Rattle.stats.specs.Stats.{fresh, confirmed, wait_for}
 use Rattle.entries.specs.Entries.{Entry}
 use Rattle.entries.specs.declared.fields.ValidationCost.TheVariants.{Unmeasured}
-use Rattle.pool.specs.Pool.{Tables}
 use Rattle.checks.specs.Checks.{list_refusal}
 use Rattle.admit.specs.Admit.{loses}
 use Rattle.fees.specs.Fees.{bin_of}
@@ -25,7 +22,7 @@ pub record Row : Type 0 where
   pub got : ℕ
   pub due : ℕ
 
-abbrev is : ℕ → ℕ → Row
+abbrev pub is : ℕ → ℕ → Row
 is g d = record { got = g; due = d }
 
 abbrev yes? : Bool → ℕ
@@ -69,7 +66,7 @@ offered = record { time = 0; id = record { a = 0; b = 0; c = 0; d = 1 }; size = 
 abbrev stops_at : ℕ → ℕ
 stops_at n = list_refusal max_inputs 0 0 (record { entries = []; boxes = [] }) offered (replicate (n * 5) 1) []
 
-pub starred : List Row
+unfoldable pub starred : List Row
 starred =
     -- "fee 1,000,000, size 300: 3,413,333"
     is (fee_per_factor FeePerByte 1000000 300 500) 3413333
@@ -103,22 +100,6 @@ starred =
     ∷ is (stops_at 5000) 27
     ∷ []
 
-abbrev agree : List Row → Bool
+abbrev pub agree : List Row → Bool
 agree [] = true
 agree (r ∷ rs) = eqb r.got r.due && agree rs
-
--- Every row of the table is as document 01 says: computed.
-pub starred-cases : agree starred ≡ true
-unfolding starred fresh confirmed counted binned loses list_refusal due
-starred-cases = refl
-
--- .. and so is the row at each place
-pub each_row : (t : List Row) → agree t ≡ true → (i : ℕ) → (get_or t i (is 0 0)).got ≡ (get_or t i (is 0 0)).due
-each_row [] e i = refl
-each_row (r ∷ rs) e i = go (eqb r.got r.due) refl e i (λ f j. each_row rs f j)
-  where
-    go : (b : Bool) → eqb r.got r.due ≡ b → (b && agree rs) ≡ true → (i : ℕ) → (agree rs ≡ true → (j : ℕ) → (get_or rs j (is 0 0)).got ≡ (get_or rs j (is 0 0)).due)
-        → (get_or (r ∷ rs) i (is 0 0)).got ≡ (get_or (r ∷ rs) i (is 0 0)).due
-    go true q f zero ih = eqb-true _ _ q
-    go true q f (suc i) ih = ih f i
-    go false q f i ih = let z : ◌≡◌ {A = ℕ} 0 1 = cc in absurd (omega arith)
