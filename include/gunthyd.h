@@ -1,4 +1,4 @@
-/* Gunthyd for C11 and C++: the calls of the proved libraries that `rt staticlib` writes.
+/* Gunthyd for C11 and C++: the calls of the proved libraries that `tools/build` writes.
  *
  * A number passes as itself; a slice of words passes as a pointer and a length in words. Nothing is required of the caller but that each
  * slice lies in memory of its own: on words, numbers and lengths of any kind a call is safe, ends, and answers. Memory is lent for the call

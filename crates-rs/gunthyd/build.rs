@@ -1,4 +1,4 @@
-// Links the static library that `rt staticlib intake` writes.
+// Links the static library that `tools/build intake` writes.
 use std::path::Path;
 
 fn main() {
