@@ -226,10 +226,11 @@ module _ (visits capacity : ℕ) (e : Entry) (ins outs ks : List ℕ) (t : Table
 record Tells (d : Admitted) : Type 0 where
   is : written_of d.outcome ≡ length d.written
 
+-- whichever of the two lists stands first
 settled-tells : (room capacity : ℕ) (ks : List ℕ) (t : Tables) → length ks + length (evicted capacity t) ≤ room → Tells (settled room capacity ks t)
 unfolding settled written_of
 settled-tells room capacity [] t h = record { is = refl }
-settled-tells room capacity (k ∷ ks) t h = record { is = omega (arith, length-append (k ∷ ks) (evicted capacity t)) }
+settled-tells room capacity (k ∷ ks) t h = record { is = omega (arith, length-append (k ∷ ks) (evicted capacity t), length-append (evicted capacity t) (k ∷ ks)) }
 
 contested-tells : (visits room capacity : ℕ) (e : Entry) (ins outs ks : List ℕ) (t : Tables) → Once ks → Each (λ k. pooled k t.entries ≡ true) ks → length t.entries + 1 ≤ room
     → Tells (contested visits room capacity e ins outs ks t)

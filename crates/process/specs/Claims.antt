@@ -24,7 +24,6 @@ use Rattle.store.specs.World.{world_of, Result, unchanged}
 use Rattle.store.specs.Fits.{Testable, Fits, Kept, all_fit, goes_on, un_not, met, was-met, cache-fits}
 use Rattle.store.specs.Fits.{unfit as no-fit}
 use Rattle.store.specs.Spares.{lent, Spares, spares-same, spares-refused}
-use Rattle.checks.specs.Passed.{Passed}
 use Rattle.admit.specs.Admit.{Admitted, cost_of}
 use Rattle.admit.specs.Admission.{Leaves}
 use Rattle.admit.specs.Spares.{SparesWords}
@@ -34,7 +33,7 @@ use Rattle.process.specs.Process.{standing_of, admitted, judged}
 use Rattle.process.specs.Post.{Post}
 use Rattle.process.specs.Numbers.{of_submission, unfit-ours, admission-ours, charging-of}
 use Rattle.process.specs.declared.Processed.{Processed}
-use Rattle.process.specs.Bills.{asked_peer, standing_for, stands, no_due, bill_of, Payable, Paid, Billed, billed, nothing-due}
+use Rattle.process.specs.Bills.{asked_peer, standing_for, stands, no_due, Payable, Paid, Billed, nothing-due}
 use Rattle.process.specs.declared.submission.Due.{Due}
 use Rattle.process.specs.declared.submission.Bill.{Bill}
 use Rattle.process.specs.declared.submission.Submitted.{Submitted}
@@ -184,11 +183,6 @@ module _ (e b k : List ℕ) (ys : List PeerRecord) (a : List ℕ) (st : Mempool)
             };
         told = t;
       }
-
--- the bill of a submission that passed its tests
-pub bills : {e b k : List ℕ} (ys : List PeerRecord) {st : Mempool} {room most : ℕ} {at : Standing} {sub : Submission} {ins outs : List ℕ} (cost : ℕ) {g : Bill} → Fits e b k ys st
-    → at ≡ standing_of sub.source (peers_of ys st.sums.peers) → Passed most e b st room at sub ins outs → g ≡ bill_of st.sums sub.source at cost → Billed ys st.sums sub.source cost g
-bills ys {st} {sub = sub} cost f q h z = rw z (billed sub.source ys st.sums cost f.records f.used q (λ r. (h.welcome r).place))
 
 -- ---- as the call claims it
 

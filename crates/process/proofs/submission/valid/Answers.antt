@@ -1,5 +1,6 @@
 -- `valid` meets its contract: the bill and the admission stand beside each other. Assumes nothing.
-use Rattle.process.specs.Claims.{claims-valid, bills}
+use Rattle.process.specs.Claims.{claims-valid}
+use Rattle.process.proofs.ClaimsLaws.{bills}
 use Rattle.process.proofs.submission.valid.Goals as goal
 
 pub returns : goal.returns
