@@ -1,5 +1,5 @@
 -- The call that a form asks for (docs/FORMS.md).
-use Rattle.std.specs.Prelude.{ℕ, Bool, false, not}
+use Rattle.std.specs.Prelude.{Bool, false, not}
 use Rattle.words.specs.Sums.{cap}
 use Rattle.lines.specs.declared.read.Form.{Form}
 use Rattle.lines.specs.declared.read.Form.TheVariants.{Pool, Tx, Return, Block, Invalidate, Open, Next, Answer, Rebroadcast, List, Top, Len, Contains, Spending, Fee, Wait, Histogram, Charges, Written, Unread}

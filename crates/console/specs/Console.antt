@@ -6,7 +6,6 @@ use Rattle.words.specs.Ids.{id_of}
 use Rattle.pool_types.specs.declared.FeeStrategy.{FeeStrategy}
 use Rattle.pool_types.specs.declared.FeeStrategy.TheVariants.{FeePerByte, FeePerCycle}
 use Rattle.pool_types.specs.declared.MempoolConfig.{MempoolConfig}
-use Rattle.pool_types.specs.declared.Mempool.{Mempool}
 use Rattle.pool_types.specs.declared.Source.{Source}
 use Rattle.pool_types.specs.declared.Source.TheVariants.{Local, Peer}
 use Rattle.pool_types.specs.declared.Submission.{Submission}
@@ -14,7 +13,7 @@ use Rattle.pool_types.specs.declared.StartOutcome.{StartOutcome}
 use Rattle.pool_types.specs.declared.StartOutcome.TheVariants.{Ready, NotStarted}
 use Rattle.pool_types.specs.declared.Verdict.{Verdict}
 use Rattle.pool_types.specs.declared.Verdict.TheVariants.{Valid, Invalid, Absent}
-use Rattle.pool_types.specs.Outcomes.{Outcome, refused, done, wrote, needed, candidate, ended, missing, invalid, valid, number, said, entry, none, written_of}
+use Rattle.pool_types.specs.Outcomes.{Outcome, refused, done, wrote, needed, candidate, ended, missing, invalid, valid, number, said, entry, none}
 use Rattle.entries.specs.Layout.{entries_room}
 use Rattle.entries.specs.declared.fields.ValidationCost.{ValidationCost}
 use Rattle.entries.specs.declared.fields.ValidationCost.TheVariants.{Unmeasured, Measured}
@@ -35,7 +34,7 @@ use Rattle.cleanup.specs.Rebroadcast.{rebroadcast}
 use Rattle.fees.specs.Fees as fees
 use Rattle.fees.specs.Fees.{Bin, bin, recommended, expected_wait, histogram_of}
 use Rattle.mempool.specs.Start.{sizes, empty, started}
-use Rattle.mempool.specs.Listing.{Row, Listing, top_of}
+use Rattle.mempool.specs.Listing.{Listing, top_of}
 use Rattle.mempool.specs.Queries.{contains_of, spending_of}
 use Rattle.lines.specs.declared.fields.Optional.{Optional}
 use Rattle.lines.specs.declared.fields.Optional.TheVariants as optional

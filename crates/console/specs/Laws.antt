@@ -1,7 +1,7 @@
 -- Laws of a line: how many ids a submission wrote, what of them stands in the answer buffer, and that a start fits.
-use Rattle.std.specs.Prelude.{ℕ, zero, suc, ◌+◌, ◌*◌, ◌/◌, ◌≤◌, ◌<◌, min, max, Bool, not, eqb, leb, ltb, length, take, set}
+use Rattle.std.specs.Prelude.{ℕ, suc, ◌+◌, ◌*◌, ◌/◌, ◌≤◌, min, max, Bool, not, eqb, leb, ltb, length, take, set}
 use Rattle.std.proofs.Math.Path.{◌≡◌, refl, subst}
-use Rattle.std.proofs.Common.{sym, ap, ◌∙◌, add-zero, add-suc, suc-add, length-set, length-append, length-take, take_all, take-suc-set}
+use Rattle.std.proofs.Common.{sym, ap, ◌∙◌, add-suc, suc-add, length-set, length-append, length-take, take_all, take-suc-set}
 use Rattle.std.proofs.Math.Bool.{true, false}
 use mathlib.Core.List.{List, [], ◌∷◌, ◌++◌, append_assoc, append-nil}
 use native.Mathlib.Omega.{arith}
@@ -20,7 +20,7 @@ use Rattle.pool_types.specs.declared.Verdict.TheVariants.{Valid, Invalid, Absent
 use Rattle.pool_types.specs.declared.StartOutcome.TheVariants.{Ready, NotStarted}
 use Rattle.pool_types.specs.declared.ListOutcome.{ListOutcome}
 use Rattle.pool_types.specs.declared.ListOutcome.TheVariants.{Listed, NotListed}
-use Rattle.pool_types.specs.Outcomes.{Outcome, refused, done, wrote, processed_of, block_of, listed_of}
+use Rattle.pool_types.specs.Outcomes.{Outcome, refused, wrote, processed_of, block_of, listed_of}
 use Rattle.entries.specs.Entries.{Entry}
 use Rattle.boxes.specs.Flat.{count_of, ids_to, ids_of, ids}
 use Rattle.pool.specs.Pool.{Tables, remove_all, evicted, fits_test}
@@ -29,7 +29,7 @@ use Rattle.boxes.specs.Records.{index, conflicts}
 use Rattle.arguments.specs.Arguments.{fee_of}
 use Rattle.checks.specs.Checks.{refusal_of}
 use Rattle.admit.specs.Admit.{Admitted, settled, seated, contested, admit_spec, crowded, loses, joined, newcomer, base_of}
-use Rattle.store.specs.World.{World, world_of, Result, unchanged}
+use Rattle.store.specs.World.{World, Result, unchanged}
 use Rattle.process.specs.Process.{Limits, standing_of, judged, processed}
 use Rattle.entries.specs.Layout.{entries_room}
 use Rattle.entries.specs.Layout.{kept-none as entries_none}
