@@ -1,6 +1,6 @@
 -- What the exported calls leave, by the words of the C side: the equations of the calls that they export, through the decodings of `State` and
 -- the numbers of `Codes`.
-use Rattle.std.specs.Prelude.{ℕ, ◌/◌, ◌^◌, ◌≤◌, ◌<◌, ◌≡◌, refl, Bool, true, false, ◌&&◌, List, leb, length}
+use Rattle.std.specs.Prelude.{ℕ, ◌/◌, ◌^◌, ◌≤◌, ◌<◌, ◌≡◌, refl, Bool, true, false, List, length}
 use Rattle.std.proofs.Common.{sym, ◌∙◌, arith}
 use Rattle.std.proofs.Math.Path.{ap}
 use Rattle.std.proofs.Math.Decide.{dec_lt}
@@ -13,7 +13,6 @@ use Rattle.pool_types.specs.declared.ProcessingOutcome.{ProcessingOutcome}
 use Rattle.pool_types.specs.Outcomes.{Outcome, processed_of, refused}
 use Rattle.peers.specs.declared.PeerRecord.{PeerRecord}
 use Rattle.entries.specs.Layout.{entries_room}
-use Rattle.pool.specs.Pool.{fits_test}
 use Rattle.store.specs.Fits.{cache_fits, all_fit}
 use Rattle.store.specs.Spares.{Spares, spared-all}
 use Rattle.store.specs.Spares.{Lent as Held, lent as held}
@@ -23,7 +22,7 @@ use Rattle.process.specs.Numbers.{of_submission}
 use Rattle.process.specs.declared.Processed.{Processed}
 use Rattle.host.specs.State.{pass_of, state_of, submission_of, left_words, left-held}
 use Rattle.host.specs.Codes.{code_of, result_of}
-use Rattle.host.specs.Results.{filled, lacking, lacks-none, Says}
+use Rattle.host.specs.Results.{filled, lacking, Says}
 use Rattle.host.specs.declared.submission.Asked.{Asked}
 use Rattle.host.specs.Spared.{Changed, changed, left-spares}
 

@@ -1,5 +1,5 @@
 -- What a call answers the C side: one number, and the words of its result record.
-use Rattle.std.specs.Prelude.{ℕ, ◌/◌, ◌%◌, ◌^◌, ◌*◌, ◌+◌, ◌<◌, ◌≡◌, refl, List, [], ◌∷◌, ◌++◌}
+use Rattle.std.specs.Prelude.{ℕ, ◌/◌, ◌%◌, ◌^◌, ◌<◌, ◌≡◌, refl, List, [], ◌∷◌, ◌++◌}
 use Rattle.std.proofs.Common.{arith}
 use Rattle.words.specs.Ids.{join, join_is, id_of, id_words, Words}
 use Rattle.words.specs.declared.ids.Id.{Id}
