@@ -1,7 +1,7 @@
 -- THEOREM `poolrun-alike`. Document 02: "`poolrun` gives the same output on the tidied file, line numbers included." Over the specification of the loop (Input):
 -- whatever the reads cut both files into, what is printed of the tidied file, and what is held then, is what it is of the file.
-use Rattle.std.specs.Prelude.{ℕ, suc, ◌+◌, ◌≤◌, ◌<◌, ◌≡◌, refl, Bool, true, false, List, [], ◌∷◌, ◌++◌, length}
-use Rattle.std.proofs.Common.{sym, ap, ap₂, subst, ◌∙◌, append_assoc, append-nil, arith, length-append, lt-ltb}
+use Rattle.std.specs.Prelude.{ℕ, ◌+◌, ◌≤◌, ◌≡◌, refl, true, false, List, [], ◌∷◌, ◌++◌, length}
+use Rattle.std.proofs.Common.{sym, ap, subst, ◌∙◌, append_assoc, append-nil, arith, length-append, lt-ltb}
 use Rattle.words.specs.Lists.{yes}
 use Rattle.forms.specs.Text.{Members, Line, spaces}
 use Rattle.forms.specs.TextLaws.{true-false}
@@ -12,7 +12,7 @@ use Rattle.spelling.specs.File as F
 use Rattle.spelling.specs.File.{File, Clean, clean-tidied, read_alike, input_of, Cut, end, piece}
 use Rattle.poolrun.specs.Input as I
 use Rattle.poolrun.specs.Input.{State, add_byte, added, Comes, Answered, Step, adds, ends, Fed, none, more, ended, Finished, between, last, Turn, some, Served, unread, reads}
-use Rattle.poolrun.specs.Poolrun.{fed-join, step-over, fed-over}
+use Rattle.poolrun.specs.Poolrun.{fed-join, fed-over}
 
 -- ---- the bytes of a line
 
@@ -41,7 +41,7 @@ clean-fed (b ∷ l) s c = more (adds c.0) (clean-fed l (added b s) c.1)
 fed-clean : {t : List ℕ} {s s' : State} (l : List ℕ) → Clean l → Fed l s t s' → (t ≡ []) × (s' ≡ held l s)
 unfolding Clean add_all added
 fed-clean [] c none = (refl, refl)
-fed-clean (b ∷ l) c (more (adds h) f) = fed-clean l c.1 f
+fed-clean {s = s} (b ∷ l) c (more (adds h) f) = fed-clean {s = added b s} l c.1 f
 fed-clean (b ∷ l) c (more (ends q x) f) = absurd (c.0 q)
 
 -- what is fed in two parts

@@ -1,31 +1,29 @@
 -- Demand 3 of what poolrun holds: for every input, after every line.
-use Rattle.std.specs.Prelude.{ℕ, ◌/◌, ◌≤◌, ◌≡◌, Bool, not, List, [], ◌∷◌, ◌++◌, length, take}
+use Rattle.std.specs.Prelude.{ℕ, ◌/◌, ◌≤◌, ◌≡◌, Bool, not, List, [], ◌∷◌, length, take}
 use Rattle.std.proofs.Math.Path.{refl, sym, ap}
 use Rattle.std.proofs.Common.{subst, ◌∙◌, arith}
 use Rattle.std.proofs.Math.Bool.{true, false}
-use Rattle.words.specs.Lists.{pick, yes, no}
+use Rattle.words.specs.Lists.{pick}
 use Rattle.pool_types.specs.declared.MempoolConfig.{MempoolConfig}
 use Rattle.pool_types.specs.declared.Mempool.{Mempool}
 use Rattle.pool_types.specs.declared.StartOutcome.{StartOutcome}
 use Rattle.pool_types.specs.declared.StartOutcome.TheVariants.{Ready, NotStarted}
 use Rattle.pool_types.specs.Outcomes.{Outcome, done}
 use Rattle.peers.specs.Flat.{records}
-use Rattle.store.specs.World.{World, world_of}
+use Rattle.store.specs.World.{world_of}
 use Rattle.mempool.specs.Start.{empty, started}
-use Rattle.cleanup.specs.Passes.{PassNow, PassResult, pass_of, still}
+use Rattle.cleanup.specs.Passes.{PassResult, pass_of, still}
 use Rattle.lines.specs.declared.read.PoolForm.{PoolForm}
 use Rattle.console.specs.Console.{Line, w_no_pool, asked, line_of, called, altered, same, started_line, processed_line, applied_line, done_line, pass_line, config_of}
 use Rattle.console.specs.Calls.{call_of, lacks_pool}
 use Rattle.console.specs.Calls.{words_of as list_words}
-use Rattle.console.specs.After.{After}
 use Rattle.console.specs.declared.Kept.{Kept}
-use Rattle.console.specs.declared.Told.{Told as ToldLine}
 use Rattle.console.specs.declared.calls.Call.{Call}
 use Rattle.console.specs.declared.calls.Call.TheVariants as call
 use Rattle.console.specs.declared.calls.Change.{Change}
 use Rattle.console.specs.declared.calls.Change.TheVariants.{Submit, Return, Block, Invalidate, Open, Next, Answer}
 use Rattle.ledger.specs.Ledger.{Heard}
-use Rattle.ledger.specs.Run.{Moment, moment, world_at, KeptAt, pass_at, Became, Becomes, Step, Begun}
+use Rattle.ledger.specs.Run.{Moment, moment, world_at, pass_at, Became, Step}
 use Rattle.ledger.proofs.Theorem.{Told, accepted-start, empty-world, empty-pass, told-begin, told-call, told-still, told-demand3}
 use Rattle.ledger.specs.Demand3.{Demand3}
 use Rattle.poolrun.specs.Input as input

@@ -1,7 +1,7 @@
 -- What the functions of poolrun's loop promise, over the definitions of Input, and the laws that their proofs cite.
 use Rattle.std.specs.Prelude.{ℕ, suc, ◌+◌, ◌-◌, ◌≤◌, ◌<◌, min, ◌≡◌, refl, Bool, true, false, List, [], ◌∷◌, ◌++◌, take, drop, set, get_or, leb, None}
 use Rattle.std.proofs.Math.Path.{sym}
-use Rattle.std.proofs.Common.{ap, subst, ◌∙◌, true≢false, append_assoc, append-nil, add-one, arith, length-append, length-drop, length-set, take_all, take-suc, take-suc-set, take_at, lt-ltb, le-ltb, leb-true, leb-false}
+use Rattle.std.proofs.Common.{ap, subst, ◌∙◌, true≢false, append_assoc, append-nil, add-one, arith, length-append, length-drop, take_all, take-suc, take-suc-set, take_at, lt-ltb, le-ltb, leb-true, leb-false}
 use Rattle.std.proofs.Math.ListN.{length, length-take}
 use Rattle.std.proofs.lemmas.List.{take-append-le}
 use Rattle.words.specs.Lists.{yes, no}
