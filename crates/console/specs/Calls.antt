@@ -47,4 +47,4 @@ words_of (change.Block g) = record { one = g.transactions; two = g.inputs }
 words_of (change.Invalidate time x) = record { one = 0; two = 0 }
 words_of (change.Open time limit preheader) = record { one = 0; two = 0 }
 words_of change.Next = record { one = 0; two = 0 }
-words_of (change.Answer n verdict) = record { one = n; two = 0 }
+words_of (change.Answer n v) = record { one = n; two = 0 }

@@ -1,5 +1,4 @@
-// A submission, exported. The peer records are lent as records, so that its proof is a walk by hand; what it reads, decides and stores is in functions
-// of their own.
+// A submission, exported. The peer records are lent as records; what it reads, decides and stores is in functions of their own.
 ghost use Rattle.std.specs.Prelude.{◌≡◌, true, ◌≤◌, length};
 ghost use Rattle.words.specs.Sums.{cap};
 ghost use Rattle.host.specs.Calls.{lent, Submitted, Refusing, Asks, Tells};

@@ -60,7 +60,7 @@ module _ (w : Words) (h : Kept) (f s : List ℕ) where
   altered-is (Invalidate time x) = record { ready = refl; config = refl; world = refl; pass = refl }
   altered-is (Open time limit preheader) = record { ready = refl; config = refl; world = refl; pass = refl }
   altered-is Next = record { ready = refl; config = refl; world = refl; pass = refl }
-  altered-is (Answer n verdict) = record { ready = refl; config = refl; world = refl; pass = refl }
+  altered-is (Answer n v) = record { ready = refl; config = refl; world = refl; pass = refl }
 
   -- the same, as a step of the ledger's lists
   abbrev before : Moment
@@ -73,7 +73,7 @@ module _ (w : Words) (h : Kept) (f s : List ℕ) where
   step_of (Invalidate time x) n b = λ _. b
   step_of (Open time limit preheader) n b = λ _. b
   step_of Next n b = λ _. b
-  step_of (Answer k verdict) n b = λ _. b
+  step_of (Answer k v) n b = λ _. b
 
 -- ---- a line that was answered
 

@@ -1,5 +1,6 @@
-// Where the programs' loops read and write. A loop goes on where the system fails: the first error is kept, behind it nothing more is read or written,
-// and the program ends with it. What a reader has left and what a writer holds is known where its own contract says so (`remaining`, `contents` of std).
+// Where the programs' loops read and write. A loop goes on where the system fails: a read that fails is the end of the input, each write is tried, and
+// the first error of each side is kept, for the program to end with. What a reader has left and what a writer holds is known where its own contract
+// says so (`remaining`, `contents` of std).
 #![tactic(auto)]
 
 ghost use Rattle.std.specs.Prelude.{◌≡◌, ◌≤◌, length, take, None, OnOk, IsOk};
@@ -59,11 +60,10 @@ impl<W: Write> Sink for Output<W> {
     ghost stand = { λ s. stand s.error (W.contents s.to) };
 
     fn hand(&mut self, bytes: &[u8]) {
-        if self.error.is_some() {
-            return;
-        }
         if let Err(e) = self.to.write_all(bytes) {
-            self.error = Some(e);
+            if self.error.is_none() {
+                self.error = Some(e);
+            }
         }
     }
 }
