@@ -23,7 +23,6 @@ use Rattle.entries.specs.Entries.{Entry, place_of, stamped}
 use Rattle.entries.specs.Layout.{entry_at, entries_of, entries_room, entries, room-ok}
 use Rattle.entries.specs.Layout.{Left as LeftEntries}
 use Rattle.entries.specs.Laws.{at_place, no_place, place-fits}
-use Rattle.entries.specs.declared.table.Place.{Place}
 use Rattle.entries.specs.declared.table.Place.TheVariants.{At, Nowhere}
 use Rattle.entries.specs.declared.fields.ValidationCost.TheVariants.{Measured}
 use Rattle.boxes.specs.Among.{among, among-cons}
@@ -36,10 +35,9 @@ use Rattle.store.specs.World.{World, world, world_of}
 use Rattle.store.specs.Fits.{Kept}
 use Rattle.store.specs.Spares.{Lent, Spares}
 use Rattle.returns.specs.Post.{recounted, recached, Cached}
-use Rattle.cleanup.specs.Passes.{PassNow, pass_of, PassResult, still, opened, nexted, sought, offered, first_due, measured, previous_cost, answered_with, answer_refusal, lacks_input, weighed, answered}
+use Rattle.cleanup.specs.Passes.{PassNow, pass_of, PassResult, still, opened, nexted, offered, measured, previous_cost, answered_with, answer_refusal, lacks_input, weighed, answered}
 use Rattle.cleanup.specs.Post.{PassPost, repassed, PassOnly, none_out, answer_code, Stepped}
 use Rattle.cleanup.specs.Numbers.{of_answer}
-use Rattle.cleanup.specs.Search.{ids_at, Sought}
 
 -- the id of four words 0 is the number 0
 pub no-id : id_of (record { a = 0; b = 0; c = 0; d = 0 }) ≡ 0
@@ -48,7 +46,7 @@ no-id = simp join_is
 
 -- ---- what is left, as a result has it
 
-post-as : {st r : Mempool} {o : Outcome} {e b k : List ℕ} {ys : List PeerRecord} {s t : PassResult} → s ≡ t → PassPost st r o e b k ys t → PassPost st r o e b k ys s
+pub post-as : {st r : Mempool} {o : Outcome} {e b k : List ℕ} {ys : List PeerRecord} {s t : PassResult} → s ≡ t → PassPost st r o e b k ys t → PassPost st r o e b k ys s
 post-as q h = rw q h
 
 post-with : {st r m : Mempool} {o : Outcome} {e b k : List ℕ} {ys : List PeerRecord} {s : PassResult} → r ≡ m → PassPost st m o e b k ys s → PassPost st r o e b k ys s
@@ -62,7 +60,7 @@ post-still : (e b k : List ℕ) (ys : List PeerRecord) (st : Mempool) (o n : Out
 post-still e b k ys st o n f q = record { kept = f; config = refl; outcome = q; world = refl; pass = refl }
 
 -- the pass alone is new
-only-post : {st r : Mempool} {o : Outcome} {s : PassResult} (e b k : List ℕ) (ys : List PeerRecord) → Kept e b k ys st → s.world ≡ world_of e b k ys st → PassOnly st r o s → PassPost st r o e b k ys s
+pub only-post : {st r : Mempool} {o : Outcome} {s : PassResult} (e b k : List ℕ) (ys : List PeerRecord) → Kept e b k ys st → s.world ≡ world_of e b k ys st → PassOnly st r o s → PassPost st r o e b k ys s
 only-post {st} {r} {o} {s} e b k ys f w h =
     record {
       kept =
@@ -160,30 +158,6 @@ module _ (st : Mempool) where
       → PassPost st st o e b k ys (nexted st.config (world_of e b k ys st) (pass_of st.pass))
   unfolding nexted
   next-again h i e b k ys f q = post-as (no _ _ _ h ∙ yes _ _ _ i) (post-still e b k ys st _ _ f q)
-
-  -- none is: the search decides
-  module _ (e : List ℕ) (h : not st.pass.open ≡ false) (i : st.pass.out ≡ false) {r : Place} (s : Sought e st.counts.pooled st.config.cleanup_interval (pass_of st.pass) r) where
-    searched : (b k : List ℕ) (ys : List PeerRecord) (ids : List ℕ) → ids_at e r ≡ ids → nexted st.config (world_of e b k ys st) (pass_of st.pass) ≡ offered ids (world_of e b k ys st) (pass_of st.pass)
-    unfolding nexted sought
-    searched b k ys ids q =
-        no _ _ _ h ∙ no _ _ _ i
-        ∙ either (leb st.pass.limit st.pass.spent) (first_due st.config.cleanup_interval (pass_of st.pass) (entries_of e st.counts.pooled))
-        ∙ ap (λ ks. offered ks (world_of e b k ys st) (pass_of st.pass)) (sym s.ids ∙ q)
-      where
-        either : (t : Bool) (ks : List ℕ)
-            → pick t (offered [] (world_of e b k ys st) (pass_of st.pass)) (offered ks (world_of e b k ys st) (pass_of st.pass)) ≡ offered (pick t [] ks) (world_of e b k ys st) (pass_of st.pass)
-        either true ks = refl
-        either false ks = refl
-
-    pub next-found : (j x : ℕ) → r ≡ At j → x ≡ (entry_at e j).id → {m : Mempool} {o : Outcome} → ((w : World) → PassOnly st m o (offered (x ∷ []) w (pass_of st.pass)))
-        → (b k : List ℕ) (ys : List PeerRecord) → Kept e b k ys st → PassPost st m o e b k ys (nexted st.config (world_of e b k ys st) (pass_of st.pass))
-    unfolding offered
-    next-found j x q y g b k ys f = post-as (searched b k ys (x ∷ []) (rw (q, y))) (only-post e b k ys f refl (g (world_of e b k ys st)))
-
-    pub next-ended : r ≡ Nowhere → {m : Mempool} {o : Outcome} → ((w : World) → PassOnly st m o (offered [] w (pass_of st.pass)))
-        → (b k : List ℕ) (ys : List PeerRecord) → Kept e b k ys st → PassPost st m o e b k ys (nexted st.config (world_of e b k ys st) (pass_of st.pass))
-    unfolding offered
-    next-ended q g b k ys f = post-as (searched b k ys [] (rw q)) (only-post e b k ys f refl (g (world_of e b k ys st)))
 
 -- ---- answer: single steps
 

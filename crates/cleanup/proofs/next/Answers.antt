@@ -5,7 +5,8 @@ use Rattle.pool_types.specs.Outcomes.{next_of}
 use Rattle.entries.specs.Layout.{ok-room, ok-fewer}
 use Rattle.store.specs.Spares.{spares-same}
 use Rattle.cleanup.specs.Numbers.{of_next}
-use Rattle.cleanup.specs.Laws.{only-state, spares-offered, spares-closed, next-closed, next-unfit, next-again, next-found, next-ended}
+use Rattle.cleanup.specs.Laws.{only-state, spares-offered, spares-closed, next-closed, next-unfit, next-again}
+use Rattle.cleanup.proofs.PassLaws.{next-found, next-ended}
 use Rattle.cleanup.proofs.next.Goals as goal
 
 pub returns-then-not-pass : goal.returns-then-not-pass
