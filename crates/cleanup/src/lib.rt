@@ -352,8 +352,8 @@ fn take_out(entries: &mut [u64], boxes: &mut [u64], mempool: Mempool) -> Mempool
 // The candidate is stamped with the cost that was measured and the pass's time, and that cost is added.
 fn stamp(entries: &mut [u64], mempool: Mempool, cost: u64) -> Mempool
     requires { EntriesOk entries.old mempool.counts.pooled }
-    ensures { (b : List ℕ) → BoxesOk b mempool.counts.records → PoolKept entries.entry.now b mempool.counts → Stepped entries.exit.now b mempool result
-        (record { entries = stamped (id_of mempool.pass.candidate) (Measured cost) mempool.pass.time (entries_of entries.entry.now mempool.counts.pooled); boxes = boxes_of b mempool.counts.records })
+    ensures { (b : List ℕ) → BoxesOk b mempool.counts.records → PoolKept entries.old b mempool.counts → Stepped entries.new b mempool result
+        (record { entries = stamped (id_of mempool.pass.candidate) (Measured cost) mempool.pass.time (entries_of entries.old mempool.counts.pooled); boxes = boxes_of b mempool.counts.records })
         (answered_with cost (pass_of mempool.pass)) }
 {
     let answering = mempool.pass;
