@@ -1,8 +1,14 @@
 -- An id as one number: four words of 64 bits, the first bytes first, so that the order of ids as bytes is the order of numbers.
 -- The number is built by `join`, a word at a time: `omega` stops at numerals of more than 38 digits, as 2 ^ 192, and takes 2 ^ 64.
-use Rattle.std.specs.Prelude.{◌≡◌, ℕ, ◌+◌, ◌*◌, ◌^◌, ◌<◌, ◌≤◌, Bool, true, false, List, [], ◌∷◌, ◌≢◌, nat_lt, slice_index, refl}
+use Rattle.std.specs.Prelude.{◌≡◌, ℕ, ◌+◌, ◌*◌, ◌^◌, ◌<◌, ◌≤◌, Bool, true, false, List, [], ◌∷◌, ◌≢◌, nat_lt, slice_index, refl, ◌==◌}
+use mathlib.Core.Bool.{cond}
 use Rattle.std.proofs.Common.{sym, ap₂, arith, ltb-true, ltb-false, lt-ltb, le-ltb}
 use Rattle.std.proofs.Math.Nat.{le_of_lt}
+use Rattle.std.specs.Ordering.{nat_cmp, MatchOrdering, is_lt}
+use Rattle.std.specs.declared.cmp.Ordering.{Ordering}
+use Rattle.std.specs.declared.cmp.Ordering.TheVariants.{Less, Equal, Greater}
+use Rattle.std.specs.Cmp.{nat_cmp_is}
+use Rattle.std.proofs.lemmas.Cmp.{ranked}
 use Rattle.words.specs.declared.ids.Id.{Id}
 
 -- the number p with one word more behind it
@@ -38,6 +44,15 @@ Four p n = (p < n) × (p + 1 < n) × (p + 2 < n) × (p + 3 < n)
 
 -- ---- what the code's tests on words say of the numbers
 
+-- the test for less, of two numbers that were compared
+pub less-is : (m n : ℕ) → is_lt (nat_cmp m n) ≡ nat_lt m n
+less-is m n = go (nat_lt m n) (m == n)
+  where
+    go : (t u : Bool) → is_lt (cond t Less (cond u Equal Greater)) ≡ t
+    go true u = refl
+    go false true = refl
+    go false false = refl
+
 -- two tests agree where what each says follows from what the other says
 pub same-ltb : (a b m n : ℕ) → (a < b → m < n) → (b ≤ a → n ≤ m) → nat_lt a b ≡ nat_lt m n
 same-ltb a b m n f g = go (nat_lt a b) refl
@@ -46,6 +61,15 @@ same-ltb a b m n f g = go (nat_lt a b) refl
     go true e = sym (lt-ltb m n (f (ltb-true a b e)))
     go false e = sym (le-ltb m n (g (ltb-false a b e)))
 
+-- two comparisons agree where each answer of the one is that of the other
+pub same-cmp : (a b m n : ℕ) → (a < b → m < n) → (a ≡ b → m ≡ n) → (b < a → n < m) → nat_cmp a b ≡ nat_cmp m n
+same-cmp a b m n below equal above = nat_cmp_is m n (nat_cmp a b) (turned (nat_cmp a b) (ranked a b (nat_cmp a b) refl))
+  where
+    turned : (r : Ordering) → MatchOrdering r (a < b) (a ≡ b) (b < a) → MatchOrdering r (m < n) (m ≡ n) (n < m)
+    turned Less h = below h
+    turned Equal h = equal h
+    turned Greater h = above h
+
 join-lt : {p q r : ℕ} (s : ℕ) → p < q → r < 2 ^ 64 → join p r < join q s
 unfolding join
 join-lt s h k = omega arith
@@ -53,10 +77,6 @@ join-lt s h k = omega arith
 join_step : {p q r s : ℕ} → p ≡ q → r < s → join p r < join q s
 unfolding join
 join_step e h = omega arith
-
-join-step-le : {p q r s : ℕ} → p ≡ q → r ≤ s → join p r ≤ join q s
-unfolding join
-join-step-le e h = omega arith
 
 join-inj : (p q r s : ℕ) → r < 2 ^ 64 → s < 2 ^ 64 → join p r ≡ join q s → (p ≡ q) × (r ≡ s)
 unfolding join
@@ -75,27 +95,32 @@ module _ (x y : Id) (wx : Words x) (wy : Words y) where
       let b = join-inj _ _ _ _ wx.1 wy.1 c.0 in
       (b.0, b.1, c.1, d.1)
 
-  pub less-a : (x.a ≢ y.a) → nat_lt x.a y.a ≡ nat_lt (id_of x) (id_of y)
+  pub cmp-a : (x.a ≢ y.a) → nat_cmp x.a y.a ≡ nat_cmp (id_of x) (id_of y)
   unfolding id_of
-  less-a n =
-      same-ltb _ _ _ _
+  cmp-a n =
+      same-cmp _ _ _ _
       (λ h. join-lt _ (join-lt _ (join-lt _ h wx.1) wx.2) wx.3)
-      (λ h. le_of_lt (join-lt _ (join-lt _ (join-lt _ (omega (arith, n)) wy.1) wy.2) wy.3))
+      (λ h. absurd (n h))
+      (λ h. join-lt _ (join-lt _ (join-lt _ h wy.1) wy.2) wy.3)
 
-  pub less-b : x.a ≡ y.a → (x.b ≢ y.b) → nat_lt x.b y.b ≡ nat_lt (id_of x) (id_of y)
+  pub cmp-b : x.a ≡ y.a → (x.b ≢ y.b) → nat_cmp x.b y.b ≡ nat_cmp (id_of x) (id_of y)
   unfolding id_of
-  less-b e n =
-      same-ltb _ _ _ _
+  cmp-b e n =
+      same-cmp _ _ _ _
       (λ h. join-lt _ (join-lt _ (join_step e h) wx.2) wx.3)
-      (λ h. le_of_lt (join-lt _ (join-lt _ (join_step (sym e) (omega (arith, n))) wy.2) wy.3))
+      (λ h. absurd (n h))
+      (λ h. join-lt _ (join-lt _ (join_step (sym e) h) wy.2) wy.3)
 
-  pub less-c : x.a ≡ y.a → x.b ≡ y.b → (x.c ≢ y.c) → nat_lt x.c y.c ≡ nat_lt (id_of x) (id_of y)
+  pub cmp-c : x.a ≡ y.a → x.b ≡ y.b → (x.c ≢ y.c) → nat_cmp x.c y.c ≡ nat_cmp (id_of x) (id_of y)
   unfolding id_of
-  less-c e f n =
-      same-ltb _ _ _ _
+  cmp-c e f n =
+      same-cmp _ _ _ _
       (λ h. join-lt _ (join_step (ap₂ join e f) h) wx.3)
-      (λ h. le_of_lt (join-lt _ (join_step (sym (ap₂ join e f)) (omega (arith, n))) wy.3))
+      (λ h. absurd (n h))
+      (λ h. join-lt _ (join_step (sym (ap₂ join e f)) h) wy.3)
 
-  pub less-d : x.a ≡ y.a → x.b ≡ y.b → x.c ≡ y.c → nat_lt x.d y.d ≡ nat_lt (id_of x) (id_of y)
+  pub cmp-d : x.a ≡ y.a → x.b ≡ y.b → x.c ≡ y.c → nat_cmp x.d y.d ≡ nat_cmp (id_of x) (id_of y)
   unfolding id_of
-  less-d e f g = same-ltb _ _ _ _ (join_step (ap₂ join (ap₂ join e f) g)) (join-step-le (sym (ap₂ join (ap₂ join e f) g)))
+  cmp-d e f g =
+      let p = ap₂ join (ap₂ join e f) g in
+      same-cmp _ _ _ _ (join_step p) (ap₂ join p) (join_step (sym p))

@@ -3,5 +3,5 @@
 
 pub mod buckets;
 pub mod ids;
-pub mod sums;
+pub mod rows;
 pub mod wide;

@@ -1,5 +1,5 @@
 // Numbers of two words: the exact product of a word and half a word, a sum of words with its carry, and the quotient of two words by one.
-ghost use Rattle.std.specs.Prelude.{◌≡◌, ◌+◌, ◌*◌, ◌/◌, ◌%◌, ◌^◌, ◌<◌, min};
+ghost use Rattle.std.specs.Prelude.{◌≡◌, ◌+◌, ◌*◌, ◌/◌, ◌%◌, ◌^◌, ◌<◌};
 ghost use Rattle.words.specs.Sums.{quotient_of};
 ghost use Rattle.words.specs.Wide.{wide_of};
 ghost use Rattle.words.specs.Divide.{Length, Serves, Ready, part_of, stepped};
@@ -13,41 +13,6 @@ pub struct Wide {
     pub low: u64,
 }
 
-// x × y, by the halves of x. The low words are added modulo 2^64: the sum wrapped exactly if it is below what was added.
-pub fn product(x: u64, y: u32) -> Wide
-    ensures { wide_of result ≡ x * y }
-{
-    let by = y as u64;
-    let upper = x / HALF * by;
-    let lower = x % HALF * by;
-    let low = std::num::wrapping_add_u64(upper % HALF * HALF, lower);
-    if low < lower {
-        return Wide {
-            high: upper / HALF + 1,
-            low,
-        };
-    }
-    Wide {
-        high: upper / HALF,
-        low,
-    }
-}
-
-// w + x, with room for the carry: the high word of a sum of n words is below n.
-pub fn add_word(w: Wide, x: u64) -> Wide
-    requires { w.high + 1 < 2 ^ 64 }
-    ensures { wide_of result ≡ wide_of w + x }
-{
-    let low = std::num::wrapping_add_u64(w.low, x);
-    if low < x {
-        return Wide {
-            high: w.high + 1,
-            low,
-        };
-    }
-    Wide { high: w.high, low }
-}
-
 // ---- the quotient of two words by one
 
 // What a division has come to: the quotient of the bits so far, and what is left of them.
@@ -55,22 +20,6 @@ pub fn add_word(w: Wide, x: u64) -> Wide
 struct Part {
     quotient: u64,
     rest: u64,
-}
-
-fn smaller(a: u32, b: u32) -> u32
-    ensures { result ≡ min a b }
-{
-    if a < b { a } else { b }
-}
-
-// How many bits w has up to its highest one bit.
-fn bits(w: Wide) -> u32
-    ensures { Length (wide_of w) result }
-{
-    if w.high != 0 {
-        return 128 - u64::leading_zeros(w.high);
-    }
-    64 - u64::leading_zeros(w.low)
 }
 
 // How many bits a step takes after the first: what is left is below d, and with half a word behind it, it still fits a word. A divisor that
@@ -81,93 +30,139 @@ fn step_bits(d: u64) -> u32
     if d < HALF { 32 } else { 1 }
 }
 
-// The 64 bits of w from bit `at` up.
-fn word_at(w: Wide, at: u32) -> u64
-    requires { at < 128 }
-    ensures { result ≡ wide_of w / 2 ^ at % 2 ^ 64 }
-{
-    if at == 0 {
-        return w.low;
-    }
-    if at < 64 {
-        return (w.high << (64 - at)) + (w.low >> at);
-    }
-    w.high >> (at - 64)
-}
-
-// The first step, down to bit `at`: nothing is left from before, so that it takes as many bits as a word has.
-fn first_step(w: Wide, d: u64, at: u32) -> Part
-    requires { (0 < d) × (at < 128) × (wide_of w < 2 ^ (64 + at)) }
-    ensures { result ≡ part_of (wide_of w) d at }
-{
-    let top = word_at(w, at);
-    Part {
-        quotient: top / d,
-        rest: top % d,
-    }
-}
-
-// Divides what is left with `size` bits more behind it. For a divisor of more than half a word that is one bit, and twice what is left and the
-// bit reach d exactly if what is left and the bit reach the gap.
-fn step(t: Part, digit: u64, d: u64, size: u32) -> Part
-    requires { Ready t digit d size }
-    ensures { result ≡ stepped t digit d size }
-{
-    if d < HALF {
-        let n = (t.rest << size) + digit;
-        return Part {
-            quotient: (t.quotient << size) + n / d,
-            rest: n % d,
-        };
-    }
-    let gap = d - t.rest;
-    let next = t.rest + digit;
-    if next < gap {
-        return Part {
-            quotient: t.quotient + t.quotient,
-            rest: t.rest + next,
-        };
-    }
-    Part {
-        quotient: t.quotient + t.quotient + 1,
-        rest: next - gap,
+impl Part {
+    // Divides what is left with `size` bits more behind it. For a divisor of more than half a word that is one bit, and twice what is left and the
+    // bit reach d exactly if what is left and the bit reach the gap.
+    fn step(self, digit: u64, d: u64, size: u32) -> Part
+        requires { Ready self digit d size }
+        ensures { result ≡ stepped self digit d size }
+    {
+        if d < HALF {
+            let n = (self.rest << size) + digit;
+            return Part {
+                quotient: (self.quotient << size) + n / d,
+                rest: n % d,
+            };
+        }
+        let gap = d - self.rest;
+        let next = self.rest + digit;
+        if next < gap {
+            return Part {
+                quotient: self.quotient + self.quotient,
+                rest: self.rest + next,
+            };
+        }
+        Part {
+            quotient: self.quotient + self.quotient + 1,
+            rest: next - gap,
+        }
     }
 }
 
-// The division starts at the highest one bit: the leading zeros of the high or the low word fix the number of steps. The first takes 64 bits,
-// or what there is; each other takes 32, or one for a divisor of more.
-fn divide(w: Wide, d: u64) -> u64
-    requires { w.high < d }
-    ensures { result ≡ wide_of w / d }
-{
-    let most = step_bits(d);
-    let mut at = bits(w);
-    at -= smaller(at, 64);
-    let mut t = first_step(w, d, at);
-    while 0 < at {
-        let size = smaller(at, most);
-        at -= size;
-        t = step(t, word_at(w, at) % (1u64 << size), d, size);
+impl Wide {
+    // x × y, by the halves of x. The low words are added modulo 2^64: the sum wrapped exactly if it is below what was added.
+    pub fn product(x: u64, y: u32) -> Wide
+        ensures { wide_of result ≡ x * y }
+    {
+        let by = y as u64;
+        let upper = x / HALF * by;
+        let lower = x % HALF * by;
+        let low = std::num::wrapping_add_u64(upper % HALF * HALF, lower);
+        if low < lower {
+            return Wide {
+                high: upper / HALF + 1,
+                low,
+            };
+        }
+        Wide {
+            high: upper / HALF,
+            low,
+        }
     }
-    t.quotient
-}
 
-// w / d, rounded down: 0 where d is 0, and 2^64−1 where the quotient is larger.
-pub fn quotient(w: Wide, d: u64) -> u64
-    ensures { result ≡ quotient_of (wide_of w) d }
-{
-    if d == 0 {
-        return 0;
+    // w + x, with room for the carry: the high word of a sum of n words is below n.
+    pub fn add_word(self, x: u64) -> Wide
+        requires { self.high + 1 < 2 ^ 64 }
+        ensures { wide_of result ≡ wide_of self + x }
+    {
+        let low = std::num::wrapping_add_u64(self.low, x);
+        if low < x {
+            return Wide {
+                high: self.high + 1,
+                low,
+            };
+        }
+        Wide {
+            high: self.high,
+            low,
+        }
     }
-    if d <= w.high {
-        return u64::MAX;
-    }
-    divide(w, d)
-}
 
-// The exact average of n words whose sum is `sum`, rounded down.
-pub fn average(sum: Wide, n: u64) -> u64
-    ensures { result ≡ quotient_of (wide_of sum) n }
-{
-    quotient(sum, n)
+    // How many bits w has up to its highest one bit.
+    fn bits(self) -> u32
+        ensures { Length (wide_of self) result }
+    {
+        if self.high != 0 {
+            return 128 - u64::leading_zeros(self.high);
+        }
+        64 - u64::leading_zeros(self.low)
+    }
+
+    // The 64 bits of w from bit `at` up.
+    fn word_at(self, at: u32) -> u64
+        requires { at < 128 }
+        ensures { result ≡ wide_of self / 2 ^ at % 2 ^ 64 }
+    {
+        if at == 0 {
+            return self.low;
+        }
+        if at < 64 {
+            return (self.high << (64 - at)) + (self.low >> at);
+        }
+        self.high >> (at - 64)
+    }
+
+    // The first step, down to bit `at`: nothing is left from before, so that it takes as many bits as a word has.
+    fn first_step(self, d: u64, at: u32) -> Part
+        requires { (0 < d) × (at < 128) × (wide_of self < 2 ^ (64 + at)) }
+        ensures { result ≡ part_of (wide_of self) d at }
+    {
+        let top = self.word_at(at);
+        Part {
+            quotient: top / d,
+            rest: top % d,
+        }
+    }
+
+    // The division starts at the highest one bit: the leading zeros of the high or the low word fix the number of steps. The first takes 64 bits,
+    // or what there is; each other takes 32, or one for a divisor of more.
+    fn divide(self, d: u64) -> u64
+        requires { self.high < d }
+        ensures { result ≡ wide_of self / d }
+    {
+        let most = step_bits(d);
+        let mut at = self.bits();
+        at -= at.min(64);
+        let mut t = self.first_step(d, at);
+        // the rules name this form, so it counts bits and is no library call
+        while 0 < at {
+            let size = at.min(most);
+            at -= size;
+            t = t.step(self.word_at(at) % (1u64 << size), d, size);
+        }
+        t.quotient
+    }
+
+    // w / d, rounded down: 0 where d is 0, and 2^64−1 where the quotient is larger.
+    pub fn quotient(self, d: u64) -> u64
+        ensures { result ≡ quotient_of (wide_of self) d }
+    {
+        if d == 0 {
+            return 0;
+        }
+        if d <= self.high {
+            return u64::MAX;
+        }
+        self.divide(d)
+    }
 }

@@ -1,11 +1,11 @@
--- `wide::bits` meets its contract: the leading zeros of the high word, or of the low word where the high word is 0, and the length make the words' bits.
+-- `wide::Wide::bits` meets its contract: the leading zeros of the high word, or of the low word where the high word is 0, and the length make the words' bits.
 -- Assumes nothing.
 use Rattle.std.proofs.Common.{◌≡◌, ℕ, suc, ◌+◌, ◌-◌, ◌*◌, ◌^◌, ◌<◌, pow-suc, arith, pow-add}
 use lib.Arith.{digits_lt}
 use lib.Count.{count_leading_zeros, leading_top, leading_length}
 use Rattle.words.specs.Wide.{wide_of}
 use Rattle.words.specs.Divide.{Length}
-use Rattle.words.proofs.wide.bits.Goals as goal
+use Rattle.words.proofs.wide.Wide.bits.Goals as goal
 
 length-low : (h l : ℕ) → h ≡ 0 → l < 2 ^ 64 → Length (h * 2 ^ 64 + l) (64 - count_leading_zeros 64 l)
 length-low h l z b =
@@ -20,10 +20,10 @@ length_high h l p a b =
     let f : 2 ^ (suc t.0 + 64) ≡ 2 ^ suc t.0 * 2 ^ 64 = pow-add 2 (suc t.0) 64 in
     rw e (record { below = rw f (digits_lt t.3 b); least = omega (arith, f, pow-suc 2 t.0, t.2); room = omega (arith, t.1) })
 
-pub returns-then-w-ne0 : goal.returns-then-w-ne0
+pub returns-then-self-ne0 : goal.returns-then-self-ne0
 unfolding wide_of
-returns-then-w-ne0 c = let w = c.args.w in length_high w.high w.low (omega (arith, c.if-w-ne0.true)) (omega arith) (omega arith)
+returns-then-self-ne0 c = let w = c.args.self in length_high w.high w.low (omega (arith, c.if-self-ne0.true)) (omega arith) (omega arith)
 
 pub returns : goal.returns
 unfolding wide_of
-returns c = let w = c.args.w in length-low w.high w.low c.if-w-ne0.false (omega arith)
+returns c = let w = c.args.self in length-low w.high w.low c.if-self-ne0.false (omega arith)

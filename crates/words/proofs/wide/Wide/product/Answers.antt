@@ -1,8 +1,8 @@
--- `wide::product` meets its contract: x is cut into halves of 32 bits, both products fit a word, and what is left is linear in them.
+-- `wide::Wide::product` meets its contract: x is cut into halves of 32 bits, both products fit a word, and what is left is linear in them.
 -- Assumes nothing.
 use Rattle.std.proofs.Common.{◌≡◌, ℕ, ◌+◌, ◌*◌, ◌/◌, ◌%◌, ◌^◌, ◌<◌, sym, ap, ◌∙◌, lt_of_le_of_lt, le_of_lt, add-mul, mul-le-mul_left, mul-lt-mul_of_pos_right, div-add-mod', mul_right_comm, arith, pow_pos}
 use Rattle.words.specs.Wide.{wide_of}
-use Rattle.words.proofs.wide.product.Goals as goal
+use Rattle.words.proofs.wide.Wide.product.Goals as goal
 
 halves : (x y : ℕ) → x * y ≡ x / 2 ^ 32 * y * 2 ^ 32 + x % 2 ^ 32 * y
 halves x y =

@@ -1,11 +1,11 @@
--- `wide::word_at` meets its contract: from bit 64 on only the high word is seen, and below it the low bits of the high word stand before what is
+-- `wide::Wide::word_at` meets its contract: from bit 64 on only the high word is seen, and below it the low bits of the high word stand before what is
 -- left of the low word. Assumes nothing.
 use Rattle.std.proofs.Common.{◌≡◌, ℕ, ◌+◌, ◌-◌, ◌*◌, ◌/◌, ◌%◌, ◌^◌, ◌<◌, ◌≤◌, sym, ap, ◌∙◌, ap₂, lt_of_le_of_lt, add-zero, mod-lt, mod-eq_of_lt, mul_assoc, arith, pow_pos, pow-add, shr-shr, shr_lt}
 use native.Mathlib.Nat.{mul-mod_left, mul-add-div_right}
 use lib.Arith.{digits_div}
 use lib.Pow.{shl-shr, shr_le, high, low, mod-pow-add}
 use Rattle.words.specs.Wide.{wide_of}
-use Rattle.words.proofs.wide.word_at.Goals as goal
+use Rattle.words.proofs.wide.Wide.word_at.Goals as goal
 
 none : (h l at : ℕ) → l < 2 ^ 64 → at ≡ 0 → l ≡ (h * 2 ^ 64 + l) / 2 ^ at % 2 ^ 64
 none h l at b e = rw e (omega arith)
@@ -45,17 +45,17 @@ upper h l at a b k =
 
 pub returns-then-at-eq0 : goal.returns-then-at-eq0
 unfolding wide_of
-returns-then-at-eq0 c = let a = c.args in none a.w.high a.w.low a.at (omega arith) c.if-at-eq0.true
+returns-then-at-eq0 c = let a = c.args in none a.self.high a.self.low a.at (omega arith) c.if-at-eq0.true
 
 pub overflow_add-result : goal.overflow_add-result
 overflow_add-result c =
     let a = c.args in
-    record { fits = rw (across a.w.high a.w.low a.at (64 - a.at) (omega arith) (omega arith)) (mod-lt _ (pow_pos 64)) }
+    record { fits = rw (across a.self.high a.self.low a.at (64 - a.at) (omega arith) (omega arith)) (mod-lt _ (pow_pos 64)) }
 
 pub returns-then-at-lt64 : goal.returns-then-at-lt64
 unfolding wide_of
-returns-then-at-lt64 c = let a = c.args in across a.w.high a.w.low a.at (64 - a.at) (omega arith) (omega arith)
+returns-then-at-lt64 c = let a = c.args in across a.self.high a.self.low a.at (64 - a.at) (omega arith) (omega arith)
 
 pub returns : goal.returns
 unfolding wide_of
-returns c = let a = c.args in upper a.w.high a.w.low a.at (omega arith) (omega arith) c.if-at-lt64.false
+returns c = let a = c.args in upper a.self.high a.self.low a.at (omega arith) (omega arith) c.if-at-lt64.false

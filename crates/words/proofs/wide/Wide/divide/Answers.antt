@@ -1,11 +1,11 @@
--- `wide::divide` meets its contract. The loop's invariant: the quotient and the rest are those of the number from bit `at` up (`part_of`); a turn is
+-- `wide::Wide::divide` meets its contract. The loop's invariant: the quotient and the rest are those of the number from bit `at` up (`part_of`); a turn is
 -- the law's step (`part_step`). The measure is `at`. Assumes nothing.
 use Rattle.std.proofs.Common.{◌≡◌, ℕ, ◌+◌, ◌-◌, ◌*◌, ◌/◌, ◌%◌, ◌^◌, ◌<◌, ◌≤◌, ap, ◌∙◌, one-mul, arith, lit<, shl_exact}
 use lib.Pow.{mod-mod-pow}
 use Rattle.words.specs.declared.wide.Part.{Part}
 use Rattle.words.specs.Wide.{wide_of}
 use Rattle.words.specs.Divide.{fits_word, Serves, serves-less, Ready, stepped, part_of, first-within, part-all, part_step, part-ready}
-use Rattle.words.proofs.wide.divide.Goals as goal
+use Rattle.words.proofs.wide.Wide.divide.Goals as goal
 
 base : (s : ℕ) → s < 64 → 1 * 2 ^ s % 2 ^ 64 ≡ 2 ^ s
 base s h = shl_exact {a = 1} 1 s 64 (lit< tt) (omega arith) ∙ one-mul (2 ^ s)
@@ -27,14 +27,14 @@ module _ (n d a s x : ℕ) (t : Part) (pos : 0 < d) (k : Serves d s) (le : s ≤
   turn-done = rw (from, digit) (part_step n d (a - s) s pos)
 
 pub first_step-t-requires : goal.first_step-t-requires
-first_step-t-requires c = (omega arith, omega (arith, c.bits-at.ensures.room), first-within c.bits-at.ensures c.smaller-at.result c.smaller-at.ensures)
+first_step-t-requires c = (omega arith, omega (arith, c.bits-at.ensures.room), first-within c.bits-at.ensures c.min-at.result c.min-at.ensures)
 
 pub step-t-requires : goal.step-t-requires
 step-t-requires c =
     let a = c in
     let l = c.loop-at in
-    turn-ready (wide_of a.args.w) a.args.d l.at c.smaller-size.result c.word_at.result l.t (omega arith) (serves-less c.step_bits-most.ensures (omega arith) (omega arith)) (omega arith) c.word_at.ensures l.invariant.1
-    (fits_word a.args.w a.requires (omega arith))
+    turn-ready (wide_of a.args.self) a.args.d l.at c.min-size.result c.word_at.result l.t (omega arith) (serves-less c.step_bits-most.ensures (omega arith) (omega arith)) (omega arith) c.word_at.ensures l.invariant.1
+    (fits_word a.args.self a.requires (omega arith))
 
 pub loop-at-preserved : goal.loop-at-preserved
 loop-at-preserved c =
@@ -42,7 +42,7 @@ loop-at-preserved c =
     let l = c.loop-at in (
       omega arith,
       c.step-t.ensures
-          ∙ turn-done (wide_of a.w) a.d l.at c.smaller-size.result c.word_at.result l.t (omega arith) (serves-less c.step_bits-most.ensures (omega arith) (omega arith)) (omega arith) c.word_at.ensures l.invariant.1,
+          ∙ turn-done (wide_of a.self) a.d l.at c.min-size.result c.word_at.result l.t (omega arith) (serves-less c.step_bits-most.ensures (omega arith) (omega arith)) (omega arith) c.word_at.ensures l.invariant.1,
     )
 
 pub returns : goal.returns
@@ -50,4 +50,4 @@ returns c =
     let a = c.args in
     let l = c.loop-at in
     let e : l.at ≡ 0 = omega arith in
-    ap (λ (t : Part). t.quotient) (l.invariant.1 ∙ ap (part_of (wide_of a.w) a.d) e) ∙ part-all (wide_of a.w) a.d
+    ap (λ (t : Part). t.quotient) (l.invariant.1 ∙ ap (part_of (wide_of a.self) a.d) e) ∙ part-all (wide_of a.self) a.d
