@@ -1,4 +1,5 @@
 -- What an admission leaves, way by way.
+use Rattle.std.specs.Prelude.{None, Some}
 use Rattle.std.specs.Prelude.{ℕ, ◌+◌, ◌≤◌, ◌<◌, min, ◌≡◌, Bool, ◌||◌, List, [], ◌∷◌, eqb, ltb, length}
 use Rattle.std.proofs.Math.Path.{refl, ap}
 use Rattle.std.proofs.Common.{sym, subst, ◌∙◌, zero-add}
@@ -7,6 +8,9 @@ use native.Mathlib.Omega.{arith}
 use borrow.Author.Tests.{lt-ltb, le-ltb, ne_eqb}
 use Rattle.words.specs.Lists.{pick}
 use Rattle.words.specs.Find.{without}
+use Rattle.pool_types.specs.Refusals.{refusal_number}
+use Rattle.pool_types.specs.declared.Refusal.{Refusal}
+use Rattle.pool_types.specs.declared.Refusal.TheVariants.{FeeBelowMinimum, PoolFull}
 use Rattle.pool_types.specs.Outcomes.{processed_of, refused, done, wrote}
 use Rattle.words.specs.Sums.{cap}
 use Rattle.words.specs.Ids.{id_of}
@@ -17,7 +21,6 @@ use Rattle.pool_types.specs.declared.ProcessingOutcome.{ProcessingOutcome}
 use Rattle.pool_types.specs.declared.ProcessingOutcome.TheVariants.{Declined, DoubleSpendLoser}
 use Rattle.weight.specs.Weight.{fee_per_factor}
 use Rattle.arguments.specs.Arguments.{fee_of, fee_sum}
-use Rattle.arguments.specs.declared.FeeSum.TheVariants.{Sum, Beyond}
 use Rattle.entries.specs.Entries.{Entry, key_of, pooled}
 use Rattle.entries.specs.declared.fields.PoolEntry.{PoolEntry}
 use Rattle.entries.specs.Layout.{entry_of, entries_of}
@@ -96,13 +99,13 @@ pub record Sound (room : ℕ) (e b : List ℕ) (r : Admission) : Type 0 where
 
 module _ (room : ℕ) (e b : List ℕ) (c : Counts) (f : PoolFits e b c) where
   -- 10 and 30
-  pub sound-declined : (n : ℕ) → (eqb n 10 || (eqb n 29 || eqb n 30)) ≡ true → Sound room e b (record { counts = c; outcome = Declined n })
+  pub sound_declined : (r : Refusal) → (eqb (refusal_number r) 10 || (eqb (refusal_number r) 29 || eqb (refusal_number r) 30)) ≡ true → Sound room e b (record { counts = c; outcome = Declined r })
   unfolding processed_of of_admission written_of
-  sound-declined n h = record { fits = f; ours = h; told = omega arith }
+  sound_declined r h = record { fits = f; ours = h; told = omega arith }
 
-  pub sound-lost : (n k : ℕ) → n ≡ min room k → Sound room e b (record { counts = c; outcome = DoubleSpendLoser n })
+  pub sound_lost : (n k : ℕ) → n ≡ min room k → Sound room e b (record { counts = c; outcome = DoubleSpendLoser n })
   unfolding processed_of of_admission written_of
-  sound-lost n k h = record { fits = f; ours = refl; told = omega arith }
+  sound_lost n k h = record { fits = f; ours = refl; told = omega arith }
 
   -- it is in, with k losers gone
   pub sound-in : (out : ProcessingOutcome) (k n : ℕ) → processed_of out ≡ pick (eqb k 0) done (wrote (min room n)) → Sound room e b (record { counts = c; outcome = out })
@@ -128,7 +131,7 @@ enters visits capacity at w x ins outs t u v e b r a₀ a p q = subst (λ (z : T
 
 module _ (visits room capacity : ℕ) (x : Entry) (ins outs ks : List ℕ) (t : Tables) where
   pub seat-crowded : (e b : List ℕ) (c : Counts) (a : List ℕ) → Left e b c t → crowded capacity x.base t.entries ≡ true
-      → Leaves e b (record { counts = c; outcome = Declined 30 }) a a (seated visits room capacity x ins outs ks t)
+      → Leaves e b (record { counts = c; outcome = Declined PoolFull }) a a (seated visits room capacity x ins outs ks t)
   unfolding seated processed_of
   seat-crowded e b c a l h = rw h (record { left = l; outcome = refl; wrote = wrote_nothing a 0 })
 
@@ -179,7 +182,7 @@ module _ (visits room capacity : ℕ) (x : Entry) (ins outs ks : List ℕ) (t : 
 
 module _ (visits room : ℕ) (g : MempoolConfig) (t : Tables) (a : Submission) (c : ℕ) (ins outs : List ℕ) (fee : ℕ) (p : fee ≡ fee_of outs) where
   pub fee-refused : (e b : List ℕ) (d : Counts) (a₀ : List ℕ) → Left e b d t → fee < g.min_fee
-      → Leaves e b (record { counts = d; outcome = Declined 10 }) a₀ a₀ (admit_spec visits room g t a c ins outs)
+      → Leaves e b (record { counts = d; outcome = Declined FeeBelowMinimum }) a₀ a₀ (admit_spec visits room g t a c ins outs)
   unfolding admit_spec processed_of
   fee-refused e b d a₀ l h = rw (← p, lt-ltb fee g.min_fee h) (record { left = l; outcome = refl; wrote = wrote_nothing a₀ 0 })
 
@@ -194,12 +197,12 @@ unfolding entry_of newcomer
 own-id x a c base ins outs es p h = ap (λ (e : Entry). pooled e.id es) p ∙ h
 
 -- the fee of outputs whose sum is in bounds
-pub fee-read : (outs : List ℕ) → fee_of outs ≤ cap → fee_sum outs ≡ Sum (fee_of outs)
+pub fee-read : (outs : List ℕ) → fee_of outs ≤ cap → fee_sum outs ≡ Some (fee_of outs)
 unfolding fee_sum
 fee-read outs h = rw (le-ltb cap (fee_of outs) h)
 
-pub fee-beyond : (outs : List ℕ) {A : Type 0} → fee_of outs ≤ cap → fee_sum outs ≡ Beyond → A
-fee-beyond outs h e = let q : Sum (fee_of outs) ≡ Beyond = sym (fee-read outs h) ∙ e in let z : ◌≡◌ {A = ℕ} 0 1 = cc in absurd (omega arith)
+pub fee_beyond : (outs : List ℕ) {A : Type 0} → fee_of outs ≤ cap → fee_sum outs ≡ None → A
+fee_beyond outs h e = let q : Some (fee_of outs) ≡ None = sym (fee-read outs h) ∙ e in let z : ◌≡◌ {A = ℕ} 0 1 = cc in absurd (omega arith)
 
-pub fee-same : (outs : List ℕ) (fee : ℕ) → fee_of outs ≤ cap → fee_sum outs ≡ Sum fee → fee ≡ fee_of outs
-fee-same outs fee h e = let q : Sum (fee_of outs) ≡ Sum fee = sym (fee-read outs h) ∙ e in cc
+pub fee_same : (outs : List ℕ) (fee : ℕ) → fee_of outs ≤ cap → fee_sum outs ≡ Some fee → fee ≡ fee_of outs
+fee_same outs fee h e = let q : Some (fee_of outs) ≡ Some fee = sym (fee-read outs h) ∙ e in cc

@@ -1,5 +1,6 @@
 -- What follows the tests of a submission with a valid verdict (document 01, "A submission"): "a remote peer is charged; 10; 29; losers go; 30;
 -- insert, credits, eviction of the lowest until the capacity is met." Here from 10 on; the block sum after the charge stands beside it.
+use Rattle.std.specs.Prelude.{None, Some}
 use Rattle.std.specs.Prelude.{ℕ, ◌+◌, min, max, ◌≡◌, refl, Bool, true, false, not, ◌&&◌, List, [], ◌∷◌, ◌++◌, eqb, leb, ltb, length}
 use Rattle.words.specs.Lists.{pick}
 use Rattle.words.specs.Find.{found, last}
@@ -15,7 +16,6 @@ use Rattle.pool_types.specs.Outcomes.{Outcome, refused, done, wrote}
 use Rattle.weight.specs.Weight.{fee_per_factor}
 use Rattle.arguments.specs.Arguments.{records, fee_of, height_key}
 use Rattle.entries.specs.Entries.{Entry}
-use Rattle.entries.specs.declared.fields.ValidationCost.TheVariants.{Unmeasured, Measured}
 use Rattle.boxes.specs.Records.{index, conflicts}
 use Rattle.boxes.specs.Flat.{ids_to, ids_of}
 use Rattle.pool.specs.Pool.{Tables, insert_tx, remove_all, nobody, evict, evicted}
@@ -66,7 +66,7 @@ newcomer a c base ins outs =
       base = base;
       size = a.size;
       cost = cost_of c a.size;
-      validation_cost = Measured c;
+      validation_cost = Some c;
       created = a.time;
       last_checked = a.time;
       height_key = height_key 7 6 outs;
@@ -123,7 +123,7 @@ admit_spec visits room g t a c ins outs =
 -- ---- on the edges
 
 abbrev sample : ℕ → ℕ → Entry
-sample k w = record { id = k; weight = w; base = w; size = 0; cost = 0; validation_cost = Unmeasured; created = 0; last_checked = 0; height_key = 0; inputs = 0 }
+sample k w = record { id = k; weight = w; base = w; size = 0; cost = 0; validation_cost = None; created = 0; last_checked = 0; height_key = 0; inputs = 0 }
 
 abbrev two : List Entry
 two = sample 1 15 ∷ sample 2 10 ∷ []

@@ -1,4 +1,5 @@
 -- What the test of 29 goes by: one weight, the sum of weights id by id, and the test as the code makes it.
+use Rattle.std.specs.Prelude.{None, Some}
 use Rattle.std.specs.Prelude.{ℕ, ◌+◌, ◌*◌, ◌^◌, ◌≤◌, ◌<◌, ◌≡◌, false, List, leb, drop}
 use Rattle.std.proofs.Common.{sym, ap, ◌∙◌, add_assoc, add-zero}
 use native.Mathlib.Omega.{arith}
@@ -11,18 +12,17 @@ use Rattle.words.specs.declared.wide.Wide.{Wide}
 use Rattle.entries.specs.Entries.{Entry, place_of}
 use Rattle.entries.specs.Layout.{entry_at, entries_of, entries}
 use Rattle.entries.specs.Laws.{at_place, no_place, place-fits}
-use Rattle.entries.specs.declared.table.Place.TheVariants.{At, Nowhere}
 use Rattle.boxes.specs.Flat.{ids_to, ids}
 use Rattle.admit.specs.Admit.{weight_of, weights_of, loses}
 
 -- ---- one weight
 
 module _ (l : List ℕ) (n k : ℕ) where
-  pub weight-there : (i : ℕ) → place_of k (entries_of l n) ≡ At i → (entry_at l i).weight ≡ weight_of k (entries_of l n)
-  weight-there i p = rw ((at_place k i (entries_of l n) p).one (entry_at l i), entries.get l n i (entry_at l i) (place-fits l n k i p))
+  pub weight_there : (i : ℕ) → place_of k (entries_of l n) ≡ Some i → (entry_at l i).weight ≡ weight_of k (entries_of l n)
+  weight_there i p = rw ((at_place k i (entries_of l n) p).one (entry_at l i), entries.get l n i (entry_at l i) (place-fits l n k i p))
 
-  pub weight-nowhere : place_of k (entries_of l n) ≡ Nowhere → 0 ≡ weight_of k (entries_of l n)
-  weight-nowhere p = rw (no_place k (entries_of l n) p).none
+  pub weight_nowhere : place_of k (entries_of l n) ≡ None → 0 ≡ weight_of k (entries_of l n)
+  weight_nowhere p = rw (no_place k (entries_of l n) p).none
 
 -- ---- their sum: of i ids of a list done, what is left to add gives what all of them give
 
@@ -66,10 +66,10 @@ module _ (es : List Entry) (l : List ℕ) (n : ℕ) where
 -- ---- 29
 
 module _ (base : ℕ) (es : List Entry) (l : List ℕ) (n : ℕ) where
-  pub loses-not : n ≡ 0 → false ≡ loses base (ids_to 4 l n) es
+  pub loses_not : n ≡ 0 → false ≡ loses base (ids_to 4 l n) es
   unfolding loses
-  loses-not h = rw ((ids 4).len l n, eq-eqb n 0 h)
+  loses_not h = rw ((ids 4).len l n, eq-eqb n 0 h)
 
-  pub loses-by : (sum : Wide) (v : ℕ) → (n ≡ 0 → ⊥) → wide_of sum ≡ weights_of (ids_to 4 l n) es → v ≡ quotient_of (wide_of sum) n → leb base v ≡ loses base (ids_to 4 l n) es
+  pub loses_by : (sum : Wide) (v : ℕ) → (n ≡ 0 → ⊥) → wide_of sum ≡ weights_of (ids_to 4 l n) es → v ≡ quotient_of (wide_of sum) n → leb base v ≡ loses base (ids_to 4 l n) es
   unfolding loses
-  loses-by sum v h e q = rw (q, e, (ids 4).len l n, ne_eqb n 0 h)
+  loses_by sum v h e q = rw (q, e, (ids 4).len l n, ne_eqb n 0 h)

@@ -21,13 +21,13 @@ module _ (capacity base : ℕ) (l : List ℕ) (n : ℕ) where
   unfolding crowded
   roomy h = rw (entries.len l n, lt-leb capacity n h)
 
-  pub crowded-none : capacity ≤ n → n ≡ 0 → false ≡ crowded capacity base (entries_of l n)
+  pub crowded_none : capacity ≤ n → n ≡ 0 → false ≡ crowded capacity base (entries_of l n)
   unfolding crowded
-  crowded-none h e = rw (entries.len l n, le-leb capacity n h, eq-eqb n 0 e)
+  crowded_none h e = rw (entries.len l n, le-leb capacity n h, eq-eqb n 0 e)
 
-  pub crowded-by : (w : ℕ) → capacity ≤ n → (n ≡ 0 → ⊥) → w ≡ (last nobody (entries_of l n)).weight → leb base w ≡ crowded capacity base (entries_of l n)
+  pub crowded_by : (w : ℕ) → capacity ≤ n → (n ≡ 0 → ⊥) → w ≡ (last nobody (entries_of l n)).weight → leb base w ≡ crowded capacity base (entries_of l n)
   unfolding crowded
-  crowded-by w h e q = rw (q, entries.len l n, le-leb capacity n h, ne_eqb n 0 e)
+  crowded_by w h e q = rw (q, entries.len l n, le-leb capacity n h, ne_eqb n 0 e)
 
 -- ---- what an eviction from the tables t leaves: words e and b with the counts, and an answer buffer a that was a₀
 
@@ -68,11 +68,11 @@ module _ (capacity at : ℕ) (w : Bool) where
         go true p r = writing_more p r
         go false p r = record { kept = r.kept ∙ p.kept; ids = r.ids ∙ p.ids; rest = r.rest ∙ p.rest }
 
-    pub evicting-all : PoolFits e b c → PoolKept e b c → c.pooled ≤ capacity → Evicts capacity at w t₀ e b (record { counts = c; n = n }) a₀ a
-    evicting-all f k g =
+    pub evicting-all : (gone : ℕ) → gone ≡ n → PoolFits e b c → PoolKept e b c → c.pooled ≤ capacity → Evicts capacity at w t₀ e b (record { counts = c; n = gone }) a₀ a
+    evicting-all gone p f k g =
         record {
           left = record { fits = f; kept = k; tables = sym (evict-done capacity t h) ∙ v.tables };
-          count = omega (arith, v.count, ap length (evicted-done capacity t h));
+          count = omega (arith, p, v.count, ap length (evicted-done capacity t h));
           wrote = writing-all (go w (rw (evicted-done capacity t h) at v.writing));
         }
       where

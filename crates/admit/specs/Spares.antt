@@ -4,6 +4,7 @@ use Rattle.std.proofs.Common.{sym, ◌∙◌, arith}
 use Rattle.std.proofs.lemmas.Bool.{eqb-false}
 use Rattle.words.specs.Lists.{pick}
 use Rattle.pool_types.specs.declared.Counts.{Counts}
+use Rattle.pool_types.specs.declared.Refusal.TheVariants.{PoolFull}
 use Rattle.pool_types.specs.declared.ProcessingOutcome.{ProcessingOutcome}
 use Rattle.pool_types.specs.declared.ProcessingOutcome.TheVariants.{Declined, DoubleSpendLoser}
 use Rattle.pool_types.specs.Outcomes.{refused, done, wrote, processed_of}
@@ -30,9 +31,9 @@ pub record Unmoved (e b a : List ℕ) (c : Counts) (e' b' a' : List ℕ) (r : Ad
 never : {A : Type 0} → ◌≡◌ {A = ℕ} 0 1 → A
 never z = absurd (omega arith)
 
-pub unmoved-full : (e b a : List ℕ) (c : Counts) → Unmoved e b a c e b a (record { counts = c; outcome = Declined 30 })
+pub unmoved_full : (e b a : List ℕ) (c : Counts) → Unmoved e b a c e b a (record { counts = c; outcome = Declined PoolFull })
 unfolding processed_of
-unmoved-full e b a c = record { full = λ j i q. cc; tables = λ j i q. (refl, refl, refl); answer = λ j i q. refl }
+unmoved_full e b a c = record { full = λ j i q. cc; tables = λ j i q. (refl, refl, refl); answer = λ j i q. refl }
 
 -- an outcome that is no refusal
 pub unmoved-in : (e b a : List ℕ) (c : Counts) (e' b' a' : List ℕ) (d : Counts) (out : ProcessingOutcome) (k n : ℕ) → processed_of out ≡ pick (eqb k 0) done (wrote n)
@@ -51,9 +52,9 @@ pub spares-all : (e b a : List ℕ) (c : Counts) (out : ProcessingOutcome) → S
 spares-all e b a c out = record { tables = λ j i q h. (refl, refl, refl); answer = λ j i q h. refl }
 
 -- 29
-pub spares-lost : (e b a : List ℕ) (c : Counts) (a' : List ℕ) (k : ℕ) → SparesWords e b a c e b a' (record { counts = c; outcome = DoubleSpendLoser k })
+pub spares_lost : (e b a : List ℕ) (c : Counts) (a' : List ℕ) (k : ℕ) → SparesWords e b a c e b a' (record { counts = c; outcome = DoubleSpendLoser k })
 unfolding processed_of
-spares-lost e b a c a' k = record { tables = λ j i q h. (refl, refl, refl); answer = λ j i q h. absurd (eqb-false j 29 h cc) }
+spares_lost e b a c a' k = record { tables = λ j i q h. (refl, refl, refl); answer = λ j i q h. absurd (eqb-false j 29 h cc) }
 
 -- after the losers went, which left words m and o with counts d
 pub spares-won : (e b a : List ℕ) (c : Counts) (m o : List ℕ) (d : Counts) (e' b' a' : List ℕ) (r : Admission) → Unmoved m o a d e' b' a' r → SparesWords e b a c e' b' a' r

@@ -19,14 +19,13 @@ ghost use Rattle.admit.specs.Spares.{SparesWords, Unmoved};
 use crate::contests::is_loser;
 use crate::evictions::{Evicted, evict_to, is_crowded};
 use answers::{places, write_ids};
-use arguments::{FeeSum, count_records, extract_fee, height_key};
-use entries::fields::{PoolEntry, ValidationCost};
+use arguments::{count_records, extract_fee, height_key};
+use entries::fields::PoolEntry;
 use family::propagate_family_weight;
 use indexes::conflicts::{any_spent, conflicts};
 use pool::{insert, remove_all};
-use pool_types::{Counts, MempoolConfig, ProcessingOutcome, Submission};
+use pool_types::{Counts, MempoolConfig, ProcessingOutcome, Refusal, Submission};
 use weight::fee_per_factor;
-use words::sums::smaller;
 
 // More inputs were refused with 7.
 const MAX_TX_INPUTS: usize = 5000;
@@ -45,22 +44,21 @@ pub struct Admission {
 pub fn cost_of(verdict: u64, size: u64) -> u64
     ensures { result ≡ cost_of verdict size }
 {
-    if verdict < size { size } else { verdict }
+    verdict.max(size)
 }
 
 // The newcomer's entry.
+#[tactic(auto, unfolding(entries::specs::Layout::entry_of, crate::specs::Admit::newcomer))]
 fn newcomer(sub: Submission, cost: u64, base: u64, inputs: &[u64], outputs: &[u64]) -> PoolEntry
     ensures { entry_of result ≡ newcomer sub cost base inputs.now outputs.now }
 {
-    let id = sub.id;
-    let measured = ValidationCost::Measured(cost);
     PoolEntry {
-        id,
+        id: sub.id,
         weight: base,
         base,
         size: sub.size,
         cost: cost_of(cost, sub.size),
-        validation_cost: measured,
+        validation_cost: Some(cost),
         created: sub.time,
         last_checked: sub.time,
         height_key: height_key(outputs, 7, 6),
@@ -87,25 +85,25 @@ fn enter(
     ensures evicts { PoolKept entries.old boxes.old counts → pooled (id_of e.id) (entries_of entries.old counts.pooled) ≡ false
         → Evicts capacity at write (joined 500 (entry_of e) inputs.now outputs.now (tables_of entries.old boxes.old counts)) entries.new boxes.new result answer.old answer.new }
 {
-    let id = e.id;
-    let base = e.base;
     let entered = insert(entries, boxes, counts, e, inputs, 5, outputs, 7);
-    propagate_family_weight(entries, boxes, entered, id, base);
+    propagate_family_weight(entries, boxes, entered, e.id, e.base);
     evict_to(entries, boxes, entered, capacity, answer, at, write)
 }
 
 // Where so many losers went: of the ids that were to be written those are counted that the answer buffer has room for.
+#[tactic(auto, unfolding(pool_types::specs::Outcomes::processed_of))]
 fn outcome_of(losers: usize, written: usize, room: usize) -> ProcessingOutcome
     ensures { processed_of result ≡ pick (eqb losers 0) done (wrote (min room written)) }
 {
     if losers == 0 {
         ProcessingOutcome::Accepted
     } else {
-        ProcessingOutcome::Replaced(smaller(room, written))
+        ProcessingOutcome::Replaced(room.min(written))
     }
 }
 
 // 30, or the newcomer takes its place after the first `k` ids of a list went: only then are they written.
+#[tactic(auto, using(crate::specs::Spares::unmoved_full))]
 fn seat(
     entries: &mut [u64],
     boxes: &mut [u64],
@@ -128,7 +126,7 @@ fn seat(
     if is_crowded(entries, counts, capacity, e.base) {
         return Admission {
             counts,
-            outcome: ProcessingOutcome::Declined(30),
+            outcome: ProcessingOutcome::Declined(Refusal::PoolFull),
         };
     }
     let room = places(answer);
@@ -145,14 +143,14 @@ fn seat(
         k,
         0 < k,
     );
-    let after = left.counts;
     Admission {
-        counts: after,
+        counts: left.counts,
         outcome: outcome_of(k, k + left.n, room),
     }
 }
 
 // 29, or the transactions that spend one of the newcomer's boxes go.
+#[tactic(auto, using(crate::specs::Spares::spares_lost))]
 fn contest(
     entries: &mut [u64],
     boxes: &mut [u64],
@@ -174,7 +172,7 @@ fn contest(
     let k = conflicts(boxes, counts.records, inputs, 5, &mut list);
     if is_loser(entries, counts.pooled, e.base, &list, k) {
         let room = places(answer);
-        let told = smaller(room, k);
+        let told = room.min(k);
         write_ids(answer, 0, &list, k);
         return Admission {
             counts,
@@ -187,7 +185,8 @@ fn contest(
     )
 }
 
-// Whether the newcomer has anybody to contest with is asked first: most have nobody, and no list is cleared for them.
+// Whether the newcomer has anybody to contest with is asked first: most have nobody, and no list is cleared for them. So the list is a local of
+// `contest`, since a function pays for its locals at each entry.
 fn find_place(
     entries: &mut [u64],
     boxes: &mut [u64],
@@ -208,9 +207,17 @@ fn find_place(
     if any_spent(boxes, counts.records, inputs, 5) {
         return contest(entries, boxes, counts, e, inputs, outputs, capacity, answer);
     }
-    let nobody = [0u64; 4];
     seat(
-        entries, boxes, counts, e, inputs, outputs, capacity, &nobody, 0, answer,
+        entries,
+        boxes,
+        counts,
+        e,
+        inputs,
+        outputs,
+        capacity,
+        &[],
+        0,
+        answer,
     )
 }
 
@@ -237,11 +244,10 @@ fn offer(
     if fee < config.min_fee {
         return Admission {
             counts,
-            outcome: ProcessingOutcome::Declined(10),
+            outcome: ProcessingOutcome::Declined(Refusal::FeeBelowMinimum),
         };
     }
-    let strategy = config.fee_strategy;
-    let base = fee_per_factor(fee, sub.size, cost_of(cost, sub.size), strategy);
+    let base = fee_per_factor(fee, sub.size, cost_of(cost, sub.size), config.fee_strategy);
     let e = newcomer(sub, cost, base, inputs, outputs);
     find_place(
         entries,
@@ -256,6 +262,7 @@ fn offer(
 }
 
 // What follows the tests of a submission whose valid verdict costs so much.
+#[tactic(auto, using(crate::specs::Admission::fee_same))]
 pub fn admit(
     entries: &mut [u64],
     boxes: &mut [u64],
@@ -275,13 +282,13 @@ pub fn admit(
         → Leaves entries.new boxes.new result answer.old answer.new (admit_spec 500 (length answer.old / 4) config (tables_of entries.old boxes.old counts) sub cost inputs.now outputs.now) }
 {
     match extract_fee(outputs) {
-        FeeSum::Sum(fee) => offer(
+        Some(fee) => offer(
             entries, boxes, counts, config, sub, cost, fee, inputs, outputs, answer,
         ),
         // never here: such a sum has been refused with 4
-        FeeSum::Beyond => Admission {
+        None => Admission {
             counts,
-            outcome: ProcessingOutcome::Declined(4),
+            outcome: ProcessingOutcome::Declined(Refusal::FeeSum),
         },
     }
 }

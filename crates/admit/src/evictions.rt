@@ -22,17 +22,12 @@ pub struct Evicted {
 }
 
 // Whether the pool is full and a base does not reach past the lowest weight. Where no entry is left nothing is lowest.
+#[tactic(auto, using(crate::specs::Evictions::roomy, crate::specs::Evictions::crowded_none, crate::specs::Evictions::crowded_by))]
 pub fn is_crowded(entries: &[u64], counts: Counts, capacity: usize, base: u64) -> bool
     requires { EntriesOk entries.now counts.pooled }
     ensures { result ≡ crowded capacity base (entries_of entries.now counts.pooled) }
 {
-    if counts.pooled < capacity {
-        return false;
-    }
-    if counts.pooled == 0 {
-        return false;
-    }
-    base <= lowest_weight(entries, counts)
+    capacity <= counts.pooled && (counts.pooled != 0 && base <= lowest_weight(entries, counts))
 }
 
 // Writes an id to place `k`, where ids are to be written at all.
@@ -59,12 +54,11 @@ pub fn evict_to(
     ensures pool_fits_2 { PoolFits entries.new boxes.new result.counts × (at + result.n ≤ cap) }
     ensures evicts { PoolKept entries.old boxes.old counts → Evicts capacity at write (tables_of entries.old boxes.old counts) entries.new boxes.new result answer.old answer.new }
 {
+    let n = counts.pooled.saturating_sub(capacity);
     let mut left = counts;
-    let mut n = 0;
-    while capacity < left.pooled {
-        note_id(answer, at + n, lowest_id(entries, left), write);
+    for i in 0..n {
+        note_id(answer, at + i, lowest_id(entries, left), write);
         left = evict_lowest(entries, boxes, left);
-        n += 1;
     }
     Evicted { counts: left, n }
 }

@@ -9,10 +9,8 @@ use std::io;
 // Transactions 1 to n in a row, each spending what the one before it makes.
 fn in_a_row(entries: &mut [u64], boxes: &mut [u64], n: u64) -> Counts {
     let mut counts = nothing();
-    let mut i: u64 = 0;
-    while i < n {
-        let spent = [0, 0, 1, i];
-        i += 1;
+    for i in 1..=n {
+        let spent = [0, 0, 1, i - 1];
         let made = [0, 0, 1, i];
         counts = enter(entries, boxes, counts, i, 10, &spent, &made);
     }

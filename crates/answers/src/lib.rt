@@ -31,9 +31,7 @@ pub fn write_ids(answer: &mut [u64], at: usize, list: &[u64], n: usize)
     requires { (n ≤ count_of 4 list.now) × (at + n ≤ cap) }
     ensures { Wrote answer.old answer.new at (ids_to 4 list.now n) }
 {
-    let mut i = 0;
-    while i < n {
+    for i in 0..n {
         write_id(answer, at + i, id_at(list, 4, i));
-        i += 1;
     }
 }

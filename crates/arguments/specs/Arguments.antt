@@ -1,9 +1,8 @@
 -- The lists that calls bring: flat words, records of W words each (docs/DECISIONS.md, D3 and D4).
+use Rattle.std.specs.Prelude.{None, Option, Some}
 use Rattle.std.specs.Prelude.{ℕ, zero, suc, ◌+◌, ◌*◌, ◌/◌, ◌%◌, max, ◌≡◌, refl, Bool, true, false, not, List, [], ◌∷◌, length, get_or, eqb, ltb}
 use Rattle.words.specs.Lists.{pick}
 use Rattle.words.specs.Sums.{cap}
-use Rattle.arguments.specs.declared.FeeSum.{FeeSum}
-use Rattle.arguments.specs.declared.FeeSum.TheVariants.{Sum, Beyond}
 
 -- refusal 1: "a list is no whole number of records"
 abbrev pub whole : ℕ → List ℕ → Bool
@@ -38,8 +37,8 @@ unfoldable pub fee_of : List ℕ → ℕ
 fee_of l = fee_from l 0 (records 7 l)
 
 -- refusal 4: "fee sum above 2^64−1"
-unfoldable pub fee_sum : List ℕ → FeeSum
-fee_sum l = pick (ltb cap (fee_of l)) Beyond (Sum (fee_of l))
+unfoldable pub fee_sum : List ℕ → Option ℕ
+fee_sum l = pick (ltb cap (fee_of l)) None (Some (fee_of l))
 
 -- ---- heights: "Heights of 32 bits are read as signed"
 

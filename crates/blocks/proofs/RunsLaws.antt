@@ -1,6 +1,6 @@
 -- A block from one confirmation to the next, the laws that rest on which of a transaction's steps comes first: the statistics of a whole transaction, and one
 -- transaction more of the loop of `next`.
-use Rattle.std.specs.Prelude.{ℕ, ◌+◌, ◌*◌, ◌<◌, ◌≡◌, true, false, List}
+use Rattle.std.specs.Prelude.{Option, None, Some, is_some, ℕ, ◌+◌, ◌*◌, ◌<◌, ◌≡◌, true, false, List}
 use Rattle.std.proofs.Math.Path.{refl}
 use Rattle.std.proofs.Common.{ap, ◌∙◌, arith}
 use Rattle.words.specs.Find.{found}
@@ -16,47 +16,48 @@ use Rattle.blocks.specs.declared.Seen.{Seen}
 use Rattle.blocks.specs.Runs.{seen_of, tallied, recorded-seen, spent-stats, confirm-stats, Come, Went, Passing}
 
 -- the statistics of one transaction
-applied-stats : (time k : ℕ) (bs : List ℕ) (m : Progress) (v : Seen) → v ≡ seen_of (found (λ e. e.id) k m.tables.entries)
-    → (applied_tx time k bs m).stats ≡ tallied time v.hit v.created v.base m.stats
+applied-stats : (time k : ℕ) (bs : List ℕ) (m : Progress) (v : Option Seen) → v ≡ seen_of (found (λ e. e.id) k m.tables.entries) → (applied_tx time k bs m).stats ≡ tallied time v m.stats
 applied-stats time k bs m v q =
     spent-stats k bs (confirm_one time k m) ∙ confirm-stats time k m ∙ recorded-seen time (found (λ e. e.id) k m.tables.entries) m.stats ∙ rw q
 
+unseen : (v : Option Seen) → is_some v ≡ false → v ≡ None
+unseen None h = refl
+unseen (Some v) h = let w : ◌≡◌ {A = ℕ} 0 1 = cc in absurd (omega arith)
+
 -- one transaction more, which was seen so
-module _ (txs ins : List ℕ) (i j to : ℕ) (h : i < records 5 txs) (q : to ≡ j + field 5 4 txs i) (k n : ℕ) (kq : k ≡ id_at txs (i * 5)) (nq : n ≡ field 5 4 txs i) {e b a e' b' a' e'' b'' a'' : List ℕ} {g : Run} {r r' : Removal} (v : Seen)
+module _ (txs ins : List ℕ) (i j to : ℕ) (h : i < records 5 txs) (q : to ≡ j + field 5 4 txs i) (k n : ℕ) (kq : k ≡ id_at txs (i * 5)) (nq : n ≡ field 5 4 txs i) {e b a e' b' a' e'' b'' a'' : List ℕ} {g : Run} {r r' : Removal} (v : Option Seen)
     (vq : EntriesKept e' r.counts.pooled → v ≡ seen_of (found (λ x. x.id) k (entries_of e' r.counts.pooled))) (p : Passing txs ins e b a g e' b' a' r i j)
     (d : (time : ℕ) → Does (applied_tx time k (inputs_at ins j n)) e' b' a' r e'' b'' a'' r') where
   one-come : (time : ℕ) (a₀ : List ℕ) (m : Progress) → Doing e b a₀ a g.left m
-      → Come txs ins (i + 1) to time (tallied time v.hit v.created v.base m.stats) (later txs ins g.at g.from time m) e'' b'' a₀ a'' r'
+      → Come txs ins (i + 1) to time (tallied time v m.stats) (later txs ins g.at g.from time m) e'' b'' a₀ a'' r'
   one-come time a₀ m f =
       let c = p.goes time a₀ m f in
       record {
         here = applied_tx time k (inputs_at ins j n) c.here;
         doing = (d time).does a₀ c.here c.doing;
-        stats = applied-stats time k (inputs_at ins j n) c.here v (vq c.doing.kept.entries ∙ ap (λ (t : Tables). seen_of (found (λ x. x.id) k t.entries)) c.doing.tables) ∙ ap (tallied time v.hit v.created v.base) c.stats;
+        stats = applied-stats time k (inputs_at ins j n) c.here v (vq c.doing.kept.entries ∙ ap (λ (t : Tables). seen_of (found (λ x. x.id) k t.entries)) c.doing.tables) ∙ ap (tallied time v) c.stats;
         same = later_more txs ins i j to h q time k n kq nq c.here ∙ c.same;
       }
 
   -- it was not pooled
-  pub passing-more : v.hit ≡ false → Passing txs ins e b a g e'' b'' a'' r' (i + 1) to
+  pub passing-more : is_some v ≡ false → Passing txs ins e b a g e'' b'' a'' r' (i + 1) to
   passing-more z =
       record {
         safe = safe-after p.safe (d 0);
         agreed = agreed-more txs ins i j to h q p.agreed;
         since = omega (arith, p.since);
         sum = omega (arith, (d 0).sum, p.sum);
-        goes = λ time a₀ m f. rw z at (one-come time a₀ m f);
+        goes = λ time a₀ m f. rw (unseen v z) at (one-come time a₀ m f);
       }
 
   -- it was: this is the next one
-  pub went-hit : {c b' : ℕ} → v.hit ≡ true → c ≡ v.created → b' ≡ v.base
-      → Went txs ins e b a g e'' b'' a'' (record { code = g.code; cached = g.cached; at = i + 1; from = to; left = r'; hit = true; created = c; base = b' })
-  went-hit z cq bq =
+  pub went-hit : is_some v ≡ true → Went txs ins e b a g e'' b'' a'' (record { cached = g.cached; at = i + 1; from = to; left = r'; seen = v })
+  went-hit z =
       record {
-        code = refl;
         cached = refl;
         ready = record { safe = safe-after p.safe (d 0); agreed = agreed-more txs ins i j to h q p.agreed };
-        on = λ _. (omega (arith, p.since), omega arith);
+        on = λ w y. (omega (arith, p.since), omega arith);
         ended = λ y. let w : ◌≡◌ {A = ℕ} 0 1 = cc in absurd (omega arith);
         sum = omega (arith, (d 0).sum, p.sum);
-        goes = λ time a₀ m f. rw (cq, bq) (rw z at (one-come time a₀ m f));
+        goes = one-come;
       }

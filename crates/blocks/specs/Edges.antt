@@ -1,4 +1,5 @@
 -- A block on its edges, by computation.
+use Rattle.std.specs.Prelude.{None}
 use Rattle.std.specs.Prelude.{ℕ, ◌≡◌, refl, Bool, true, false, List, [], ◌∷◌}
 use Rattle.words.specs.Ids.{num, id_at}
 use Rattle.words.specs.declared.ids.Id.{Id}
@@ -11,7 +12,6 @@ use Rattle.peers.specs.Peers.{peer_of}
 use Rattle.stats.specs.Stats.{fresh, counted, binned, confirmed}
 use Rattle.stats.specs.declared.FeeStats.{FeeStats}
 use Rattle.entries.specs.Entries.{Entry, ahead}
-use Rattle.entries.specs.declared.fields.ValidationCost.TheVariants.{Unmeasured}
 use Rattle.boxes.specs.Flat.{ids_to}
 use Rattle.pool.specs.Pool.{Tables, insert_tx}
 use Rattle.store.specs.World.{World, world, unchanged}
@@ -20,7 +20,7 @@ use Rattle.blocks.specs.Blocks.{Confirmed, Progress, recorded, confirm_one, driv
 -- ---- transactions in a pool: 1 of base 30, made at 1,000, spends box 7 and makes 8; 2 of base 20 spends 9; 3 of base 10 spends 8
 
 abbrev sample : ℕ → ℕ → Entry
-sample k w = record { id = k; weight = w; base = w; size = 0; cost = 0; validation_cost = Unmeasured; created = 1000; last_checked = 0; height_key = 0; inputs = 0 }
+sample k w = record { id = k; weight = w; base = w; size = 0; cost = 0; validation_cost = None; created = 1000; last_checked = 0; height_key = 0; inputs = 0 }
 
 abbrev pub none : Tables
 none = record { entries = []; boxes = [] }

@@ -1,14 +1,15 @@
 -- A block from one confirmation to the next. The code on plain words keeps no statistics: it tells what is to be recorded, and what is said of it here
 -- holds for all statistics and at each time.
+use Rattle.std.specs.Prelude.{Option, None, Some, Result, Ok, Err}
 use Rattle.std.specs.Prelude.{ℕ, suc, ◌+◌, ◌-◌, ◌/◌, ◌≤◌, ◌<◌, ◌≡◌, Bool, true, false, List, [], ◌∷◌, ◌++◌, eqb, length}
 use Rattle.std.proofs.Math.Path.{refl}
-use Rattle.std.proofs.Common.{sym, ap, ◌∙◌, arith, eqb-true}
-use Rattle.std.proofs.lemmas.Bool.{eqb-false}
+use Rattle.std.proofs.Common.{sym, ap, ◌∙◌, arith}
 use Rattle.words.specs.Lists.{pick}
 use Rattle.words.specs.Find.{found}
 use Rattle.words.specs.Sums.{cap}
 use Rattle.pool_types.specs.declared.Mempool.{Mempool}
-use Rattle.pool_types.specs.declared.BlockOutcome.TheVariants.{Removed, NotApplied}
+use Rattle.pool_types.specs.Refusals.{refusal_number}
+use Rattle.pool_types.specs.declared.Refusal.{Refusal}
 use Rattle.arguments.specs.Arguments.{records}
 use Rattle.expiring_cache.specs.Layout.{CacheOk, CacheKept, Pruned}
 use Rattle.stats.specs.Stats.{confirmed}
@@ -16,14 +17,13 @@ use Rattle.stats.specs.declared.FeeStats.{FeeStats}
 use Rattle.entries.specs.Entries.{Entry, pooled, place_of}
 use Rattle.entries.specs.Laws.{at_place, no_place, place-fits}
 use Rattle.entries.specs.Layout.{entry_at, entries_of, entries}
-use Rattle.entries.specs.declared.table.Place.TheVariants.{At, Nowhere}
 use Rattle.boxes.specs.Records.{index, lookup}
 use Rattle.pool.specs.Pool.{tables_of, PoolKept, remove_tx}
 use Rattle.answers.specs.Answers.{wrote_nothing}
 use Rattle.store.specs.Fits.{Testable, cache-fits}
 use Rattle.blocks.specs.Blocks.{Progress, recorded, confirm_one, drive_out, rivals, spent_one, spent, applied_txs, confirmed_of}
-use Rattle.blocks.specs.Steps.{Safe, Doing, safe-none, Agreed, later, agreed-none, later-none}
-use Rattle.blocks.specs.Tests.{Passed, passed, code_of, code-none}
+use Rattle.blocks.specs.Steps.{Safe, Doing, safe-none, Agreed, later, agreed-none, later-none, later-all}
+use Rattle.blocks.specs.Tests.{Passed, passed, refusal_on, code-none}
 use Rattle.blocks.specs.declared.Blocked.{Blocked}
 use Rattle.blocks.specs.declared.Removal.{Removal}
 use Rattle.blocks.specs.declared.Run.{Run}
@@ -31,26 +31,27 @@ use Rattle.blocks.specs.declared.Seen.{Seen}
 
 -- ---- what is to be recorded of an entry that was found, and the statistics with it
 
-unfoldable pub seen_of : List Entry → Seen
-seen_of [] = record { hit = false; created = 0; base = 0 }
-seen_of (e ∷ es) = record { hit = true; created = e.created; base = e.base }
+unfoldable pub seen_of : List Entry → Option Seen
+seen_of [] = None
+seen_of (e ∷ es) = Some (record { created = e.created; base = e.base })
 
-abbrev pub tallied : ℕ → Bool → ℕ → ℕ → FeeStats → FeeStats
-tallied time hit created base s = pick hit (confirmed 60000 s time created base) s
+abbrev pub tallied : ℕ → Option Seen → FeeStats → FeeStats
+tallied time None s = s
+tallied time (Some v) s = confirmed 60000 s time v.created v.base
 
-pub recorded-seen : (time : ℕ) (es : List Entry) (s : FeeStats) → recorded time es s ≡ tallied time (seen_of es).hit (seen_of es).created (seen_of es).base s
+pub recorded-seen : (time : ℕ) (es : List Entry) (s : FeeStats) → recorded time es s ≡ tallied time (seen_of es) s
 unfolding recorded seen_of
 recorded-seen time [] s = refl
 recorded-seen time (e ∷ es) s = refl
 
-pub seen-there : (k : ℕ) (l : List ℕ) (n i : ℕ) {created base : ℕ} → place_of k (entries_of l n) ≡ At i → created ≡ (entry_at l i).created → base ≡ (entry_at l i).base
-    → record { hit = true; created = created; base = base } ≡ seen_of (found (λ x. x.id) k (entries_of l n))
+pub seen_there : (k : ℕ) (l : List ℕ) (n i : ℕ) {created base : ℕ} → place_of k (entries_of l n) ≡ Some i → created ≡ (entry_at l i).created → base ≡ (entry_at l i).base
+    → Some (record { created = created; base = base }) ≡ seen_of (found (λ x. x.id) k (entries_of l n))
 unfolding seen_of
-seen-there k l n i p c b = rw ((at_place k i (entries_of l n) p).one (entry_at l i), entries.get l n i (entry_at l i) (place-fits l n k i p), c, b)
+seen_there k l n i p c b = rw ((at_place k i (entries_of l n) p).one (entry_at l i), entries.get l n i (entry_at l i) (place-fits l n k i p), c, b)
 
-pub seen-nowhere : (k : ℕ) (es : List Entry) → place_of k es ≡ Nowhere → record { hit = false; created = 0; base = 0 } ≡ seen_of (found (λ x. x.id) k es)
+pub seen_nowhere : (k : ℕ) (es : List Entry) → place_of k es ≡ None → None ≡ seen_of (found (λ x. x.id) k es)
 unfolding seen_of
-seen-nowhere k es p = rw (no_place k es p).none
+seen_nowhere k es p = rw (no_place k es p).none
 
 -- ---- the statistics of a step: only the confirmed transaction itself changes them
 
@@ -111,15 +112,14 @@ pub record Come (txs ins : List ℕ) (i j time : ℕ) (s : FeeStats) (x : Progre
 
 -- the run r follows g: what is left of r with what it says recorded comes to what was left of g
 pub record Went (txs ins e b a : List ℕ) (g : Run) (e' b' a' : List ℕ) (r : Run) : Type 0 where
-  pub code : r.code ≡ g.code
   pub cached : r.cached ≡ g.cached
   pub ready : Ready e' b' txs ins r
-  pub on : r.hit ≡ true → (g.at < r.at) × (r.at ≤ records 5 txs)
-  pub ended : r.hit ≡ false → records 5 txs ≤ r.at
+  pub on : (v : Seen) → r.seen ≡ Some v → (g.at < r.at) × (r.at ≤ records 5 txs)
+  pub ended : r.seen ≡ None → records 5 txs ≤ r.at
   -- what was written and what is pooled are no more than before together
   pub sum : r.left.written + r.left.counts.pooled ≤ g.left.written + g.left.counts.pooled
   pub goes : (time : ℕ) (a₀ : List ℕ) (m : Progress) → Doing e b a₀ a g.left m
-      → Come txs ins r.at r.from time (tallied time r.hit r.created r.base m.stats) (later txs ins g.at g.from time m) e' b' a₀ a' r.left
+      → Come txs ins r.at r.from time (tallied time r.seen m.stats) (later txs ins g.at g.from time m) e' b' a₀ a' r.left
 
 -- ---- its loop: so far none was pooled
 
@@ -135,158 +135,120 @@ passing-none g f =
     record { safe = f.safe; agreed = f.agreed; since = omega arith; sum = omega arith; goes = λ time a₀ m d. record { here = m; doing = d; stats = refl; same = refl } }
 
 -- the end: none was
-pub went-end : {txs ins e b a e' b' a' : List ℕ} {g : Run} {r : Removal} {i j : ℕ} (c w : ℕ) → Passing txs ins e b a g e' b' a' r i j → records 5 txs ≤ i
-    → Went txs ins e b a g e' b' a' (record { code = g.code; cached = g.cached; at = i; from = j; left = r; hit = false; created = c; base = w })
-went-end c w p h =
+pub went-end : {txs ins e b a e' b' a' : List ℕ} {g : Run} {r : Removal} {i j n : ℕ} → Passing txs ins e b a g e' b' a' r i j → records 5 txs ≤ i → n ≡ records 5 txs
+    → Went txs ins e b a g e' b' a' (record { cached = g.cached; at = n; from = j; left = r; seen = None })
+went-end {txs} {ins} {i = i} {j = j} {n = n} p h q =
+    let w : records 5 txs - i ≡ 0 = omega arith in
+    let z : records 5 txs - n ≡ 0 = omega arith in
     record {
-      code = refl;
       cached = refl;
-      ready = record { safe = p.safe; agreed = p.agreed };
-      on = λ y. let z : ◌≡◌ {A = ℕ} 0 1 = cc in absurd (omega arith);
-      ended = λ _. h;
+      ready = record { safe = p.safe; agreed = record { sum = rw z (rw w at p.agreed.sum) } };
+      on = λ v y. let o : ◌≡◌ {A = ℕ} 0 1 = cc in absurd (omega arith);
+      ended = λ _. omega arith;
       sum = p.sum;
-      goes = p.goes;
+      goes = λ time a₀ m d.
+          let c = p.goes time a₀ m d in
+          record { here = c.here; doing = c.doing; stats = c.stats; same = later-all txs ins n j (omega arith) time c.here ∙ sym (later-all txs ins i j h time c.here) ∙ c.same };
     }
 
 -- ---- a block, from its beginning to where it is
 
--- before its first transaction, with this refusal
+-- before its first transaction, on a cache that holds so many ids
 unfoldable pub fresh : Mempool → ℕ → Run
-fresh st n =
-    record { code = n; cached = st.cached; at = 0; from = 0; left = record { counts = st.counts; written = 0 }; hit = false; created = 0; base = 0 }
+fresh st c = record { cached = c; at = 0; from = 0; left = record { counts = st.counts; written = 0 }; seen = None }
 
 abbrev pub begun_on : List ℕ → List ℕ → Mempool → FeeStats → Progress
 begun_on e b st s = record { tables = tables_of e b st.counts; stats = s; removed = [] }
 
--- the words were those of e, b, k and a, the statistics s; they are those of e', b', k', a' and x, and r is to be recorded next
-pub record Going (time : ℕ) (txs ins e b k a : List ℕ) (st : Mempool) (s : FeeStats) (e' b' k' a' : List ℕ) (r : Run) (x : FeeStats) : Type 0 where
+-- no test refuses it; the words were those of e, b, k and a, the statistics s; they are those of e', b', k', a' and x, and what r has seen is to be recorded next
+pub record Running (time : ℕ) (txs ins e b k a : List ℕ) (st : Mempool) (s : FeeStats) (e' b' k' a' : List ℕ) (r : Run) (x : FeeStats) : Type 0 where
+  pub accepted : refusal_on e b k st (length a / 4) txs ins ≡ 0
   pub ready : Ready e' b' txs ins r
   pub room : st.counts.pooled + 1 ≤ length a / 4
   pub sum : r.left.written + r.left.counts.pooled ≤ st.counts.pooled
-  pub ended : r.hit ≡ false → records 5 txs ≤ r.at
+  pub ended : r.seen ≡ None → records 5 txs ≤ r.at
   pub pruned : CacheKept k st.cached → Pruned k k' st.cached r.cached st.config.invalidation_ttl time
-  pub come : PoolKept e b st.counts → Come txs ins r.at r.from time (tallied time r.hit r.created r.base x) (applied_txs time (confirmed_of txs ins) (begun_on e b st s)) e' b' a a' r.left
+  pub come : PoolKept e b st.counts → Come txs ins r.at r.from time (tallied time r.seen x) (applied_txs time (confirmed_of txs ins) (begun_on e b st s)) e' b' a a' r.left
 
--- a refused one is at its end, and nothing changed
-pub record Idle (e b k a : List ℕ) (s : FeeStats) (e' b' k' a' : List ℕ) (r : Run) (x : FeeStats) : Type 0 where
-  pub none : r.hit ≡ false
+-- a refused block has changed nothing
+pub record Unchanged (e b k a e' b' k' a' : List ℕ) : Type 0 where
   pub entries : e' ≡ e
   pub boxes : b' ≡ b
   pub cache : k' ≡ k
   pub answer : a' ≡ a
-  pub stats : x ≡ s
 
-pub record Running (time : ℕ) (txs ins e b k a : List ℕ) (st : Mempool) (s : FeeStats) (e' b' k' a' : List ℕ) (r : Run) (x : FeeStats) : Type 0 where
-  pub code : r.code ≡ code_of e b k st (length a / 4) txs ins
-  pub idle : (r.code ≡ 0 → ⊥) → Idle e b k a s e' b' k' a' r x
-  pub going : r.code ≡ 0 → Going time txs ins e b k a st s e' b' k' a' r x
+-- the tests refuse it, or it runs, whatever the statistics are
+abbrev pub Begun : ℕ → List ℕ → List ℕ → List ℕ → List ℕ → List ℕ → List ℕ → Mempool → List ℕ → List ℕ → List ℕ → List ℕ → Result Run Refusal → Type 0
+Begun time txs ins e b k a st e' b' k' a' (Err r) = Unchanged e b k a e' b' k' a' × (refusal_number r ≡ refusal_on e b k st (length a / 4) txs ins)
+Begun time txs ins e b k a st e' b' k' a' (Ok g) = (s : FeeStats) → Running time txs ins e b k a st s e' b' k' a' g s
 
 -- what is handed back, once nothing is left to be recorded
 unfoldable pub finished : Mempool → Run → Blocked
 finished st r =
-    pick (eqb r.code 0)
-    (record {
+    record {
       mempool = record { config = st.config; counts = r.left.counts; cached = r.cached; sums = record { interblock_cost = 0; peers = 0 }; pass = st.pass };
-      outcome = Removed r.left.written;
-    })
-    (record { mempool = st; outcome = NotApplied r.code })
+      outcome = Ok r.left.written;
+    }
 
 -- ---- it begins, goes on, and how much is left
 
-abbrev pub holding : ℕ → Run → Run
-holding c g = record { code = g.code; cached = c; at = g.at; from = g.from; left = g.left; hit = g.hit; created = g.created; base = g.base }
+pub begun-refused : (time : ℕ) (txs ins e b k a : List ℕ) (st : Mempool) (room : ℕ) (r : Refusal) → room ≡ length a / 4 → refusal_number r ≡ refusal_on e b k st room txs ins
+    → Begun time txs ins e b k a st e b k a (Err r)
+begun-refused time txs ins e b k a st room r l q = (record { entries = refl; boxes = refl; cache = refl; answer = refl }, rw (← l) q)
 
--- n is the code that the tests gave, and g begins with it
-module _ (txs ins e b k : List ℕ) (st : Mempool) (room : ℕ) {n : ℕ} (q : n ≡ code_of e b k st room txs ins) {g : Run} (f : g ≡ fresh st n) where
-  pub run-refused : (time : ℕ) (a : List ℕ) → room ≡ length a / 4 → (n ≡ 0 → ⊥) → (s : FeeStats) → Running time txs ins e b k a st s e b k a g s
+-- the tests refuse nothing
+module _ (txs ins e b k : List ℕ) (st : Mempool) (room : ℕ) (z : refusal_on e b k st room txs ins ≡ 0) where
+  fitted : Testable e b k st
+  fitted = (cache-fits e b k st (code-none e b k st room txs ins z).0).0
+
+  tested : Passed st room txs ins
+  tested = passed st room txs ins (code-none e b k st room txs ins z).1
+
+  pub begin-cache : CacheOk k st.cached
+  begin-cache = fitted.cache
+
+  pub begin-ready : (c : ℕ) (g : Run) → g ≡ fresh st c → length e ≤ cap → Ready e b txs ins g
   unfolding fresh
-  run-refused time a l h s =
-      rw f
-      (record {
-        code = rw (← l) q;
-        idle = λ _. record { none = refl; entries = refl; boxes = refl; cache = refl; answer = refl; stats = refl };
-        going = λ z. absurd (h z);
-      })
+  begin-ready c g f h = rw f (record { safe = safe-none fitted.pool h; agreed = agreed-none txs ins tested.agree })
 
-  module _ (z : n ≡ 0) where
-    fitted : Testable e b k st
-    fitted = (cache-fits e b k st (code-none e b k st room txs ins (sym q ∙ z)).0).0
+  pub run-begun : {time : ℕ} {a e' b' k' a' : List ℕ} {g r : Run} {c : ℕ} → room ≡ length a / 4 → g ≡ fresh st c → (CacheKept k st.cached → Pruned k k' st.cached c st.config.invalidation_ttl time)
+      → Went txs ins e b a g e' b' a' r → (s : FeeStats) → Running time txs ins e b k a st s e' b' k' a' r s
+  unfolding fresh
+  run-begun {time} {a} {e'} {b'} {k'} {a'} {g} {r} {c} l f p v s =
+      let w : Went txs ins e b a (fresh st c) e' b' a' r = rw f at v in
+      record {
+        accepted = rw (← l) z;
+        ready = w.ready;
+        room = rw (← l) tested.room;
+        sum = omega (arith, w.sum);
+        ended = w.ended;
+        pruned = rw w.cached p;
+        come = λ kept. rw (later-none txs ins time (begun_on e b st s)) at (w.goes time a (begun_on e b st s) (record { kept = kept; tables = refl; wrote = wrote_nothing a 0; count = refl }));
+      }
 
-    tested : Passed st room txs ins
-    tested = passed st room txs ins (code-none e b k st room txs ins (sym q ∙ z)).1
-
-    pub begin-cache : CacheOk k st.cached
-    begin-cache = fitted.cache
-
-    pub begin-ready : (c : ℕ) → length e ≤ cap → Ready e b txs ins (holding c g)
-    unfolding fresh
-    begin-ready c h = rw f (record { safe = safe-none fitted.pool h; agreed = agreed-none txs ins tested.agree })
-
-    pub run-begun : {time : ℕ} {a e' b' k' a' : List ℕ} {r : Run} {c : ℕ} → room ≡ length a / 4 → (CacheKept k st.cached → Pruned k k' st.cached c st.config.invalidation_ttl time)
-        → Went txs ins e b a (holding c g) e' b' a' r → (s : FeeStats) → Running time txs ins e b k a st s e' b' k' a' r s
-    unfolding fresh
-    run-begun {time} {a} {e'} {b'} {k'} {a'} {r} {c} l p v s =
-        let w : Went txs ins e b a (holding c (fresh st n)) e' b' a' r = rw f at v in
-        record {
-          code = w.code ∙ rw (← l) q;
-          idle = λ h. absurd (h (w.code ∙ z));
-          going = λ _.
-              record {
-                ready = w.ready;
-                room = rw (← l) tested.room;
-                sum = omega (arith, w.sum);
-                ended = w.ended;
-                pruned = rw w.cached p;
-                come = λ kept. rw (later-none txs ins time (begun_on e b st s)) at (w.goes time a (begun_on e b st s) (record { kept = kept; tables = refl; wrote = wrote_nothing a 0; count = refl }));
-              };
-        }
-
-module _ {time : ℕ} {txs ins e b k a : List ℕ} {st : Mempool} {s : FeeStats} {e' b' k' a' e'' b'' a'' : List ℕ} {g r : Run} {x x' : FeeStats} where
-  come-on : Going time txs ins e b k a st s e' b' k' a' g x → g.hit ≡ true → x' ≡ confirmed 60000 x time g.created g.base → Went txs ins e' b' a' g e'' b'' a'' r → PoolKept e b st.counts
-      → Come txs ins r.at r.from time (tallied time r.hit r.created r.base x') (applied_txs time (confirmed_of txs ins) (begun_on e b st s)) e'' b'' a a'' r.left
+module _ {time : ℕ} {txs ins e b k a : List ℕ} {st : Mempool} {s : FeeStats} {e' b' k' a' e'' b'' a'' : List ℕ} {g r : Run} {x x' : FeeStats} {v : Seen} where
+  come-on : Running time txs ins e b k a st s e' b' k' a' g x → g.seen ≡ Some v → x' ≡ confirmed 60000 x time v.created v.base → Went txs ins e' b' a' g e'' b'' a'' r → PoolKept e b st.counts
+      → Come txs ins r.at r.from time (tallied time r.seen x') (applied_txs time (confirmed_of txs ins) (begun_on e b st s)) e'' b'' a a'' r.left
   come-on p z q w kept =
       let c = p.come kept in
       let d = w.goes time a c.here c.doing in
       let u : c.here.stats ≡ x' = rw z at c.stats ∙ sym q in
-      record { here = d.here; doing = d.doing; stats = d.stats ∙ ap (tallied time r.hit r.created r.base) u; same = d.same ∙ c.same }
+      record { here = d.here; doing = d.doing; stats = d.stats ∙ ap (tallied time r.seen) u; same = d.same ∙ c.same }
 
-  -- g was recorded, and r follows
-  pub run_on : Running time txs ins e b k a st s e' b' k' a' g x → g.hit ≡ true → x' ≡ confirmed 60000 x time g.created g.base → Went txs ins e' b' a' g e'' b'' a'' r
+  -- what g has seen was recorded, and r follows
+  pub run_on : Running time txs ins e b k a st s e' b' k' a' g x → g.seen ≡ Some v → x' ≡ confirmed 60000 x time v.created v.base → Went txs ins e' b' a' g e'' b'' a'' r
       → Running time txs ins e b k a st s e'' b'' k' a'' r x'
   run_on p z q w =
-      record {
-        code = w.code ∙ p.code;
-        idle = λ h. let y = (p.idle (λ t. h (w.code ∙ t))).none in let o : ◌≡◌ {A = ℕ} 0 1 = cc in absurd (omega arith);
-        going = λ h.
-            let f = p.going (sym w.code ∙ h) in
-            record { ready = w.ready; room = f.room; sum = omega (arith, w.sum, f.sum); ended = w.ended; pruned = rw w.cached f.pruned; come = come-on f z q w };
-      }
-
--- something is left to be recorded only of a block that is not refused, whose tables are right
-pub run-ready : {time : ℕ} {txs ins e b k a : List ℕ} {st : Mempool} {s : FeeStats} {e' b' k' a' : List ℕ} {g : Run} {x : FeeStats}
-    → Running time txs ins e b k a st s e' b' k' a' g x → g.hit ≡ true → Ready e' b' txs ins g
-run-ready {txs = txs} {ins = ins} {e' = e'} {b' = b'} {g = g} p z = go (eqb g.code 0) refl
-  where
-    go : (t : Bool) → eqb g.code 0 ≡ t → Ready e' b' txs ins g
-    go true q = (p.going (eqb-true g.code 0 q)).ready
-    go false q = let y = (p.idle (λ n. eqb-false g.code 0 q n)).none in let o : ◌≡◌ {A = ℕ} 0 1 = cc in absurd (omega arith)
+      record { accepted = p.accepted; ready = w.ready; room = p.room; sum = omega (arith, w.sum, p.sum); ended = w.ended; pruned = rw w.cached p.pruned; come = come-on p z q w }
 
 -- how many turns there are at most
-abbrev pub turns : List ℕ → Bool → ℕ → ℕ
-turns txs hit at = pick hit (suc (records 5 txs - at)) 0
+abbrev pub turns : List ℕ → Option Seen → ℕ → ℕ
+turns txs None at = 0
+turns txs (Some v) at = suc (records 5 txs - at)
 
-pub fewer-turns : {txs ins e b a e' b' a' : List ℕ} {g r : Run} → g.hit ≡ true → Went txs ins e b a g e' b' a' r → turns txs r.hit r.at < turns txs g.hit g.at
-fewer-turns {txs = txs} {g = g} {r = r} z w = rw z (go r.hit w.on)
+pub fewer-turns : {txs ins e b a e' b' a' : List ℕ} {g r : Run} {v : Seen} → g.seen ≡ Some v → Went txs ins e b a g e' b' a' r → turns txs r.seen r.at < turns txs g.seen g.at
+fewer-turns {txs = txs} {g = g} {r = r} z w = rw z (go r.seen w.on)
   where
-    go : (t : Bool) → (t ≡ true → (g.at < r.at) × (r.at ≤ records 5 txs)) → turns txs t r.at < suc (records 5 txs - g.at)
-    go true h = omega (arith, (h refl).0, (h refl).1)
-    go false h = omega arith
-
-module _ (txs : List ℕ) where
-  pub turns-none : (hit : Bool) (at : ℕ) → turns txs hit at ≡ 0 → hit ≡ false
-  turns-none true at q = absurd (omega arith)
-  turns-none false at q = refl
-
-  pub turns-some : (hit : Bool) (at n : ℕ) → turns txs hit at ≡ suc n → hit ≡ true
-  turns-some true at n q = refl
-  turns-some false at n q = absurd (omega arith)
+    go : (o : Option Seen) → ((v : Seen) → o ≡ Some v → (g.at < r.at) × (r.at ≤ records 5 txs)) → turns txs o r.at < suc (records 5 txs - g.at)
+    go None h = omega arith
+    go (Some v) h = omega (arith, (h v refl).0, (h v refl).1)

@@ -7,7 +7,8 @@ ghost use Rattle.std.specs.Prelude.{◌≡◌, true, false, List, ℕ, ◌-◌, 
 ghost use Rattle.words.specs.Lists.{pick};
 ghost use Rattle.words.specs.Ids.{id_of};
 ghost use Rattle.words.specs.Find.{found};
-ghost use Rattle.pool_types.specs.Outcomes.{block_of, refused, wrote};
+ghost use Rattle.pool_types.specs.Outcomes.{listed_of, refused, wrote};
+ghost use Rattle.pool_types.specs.Refusals.{code_of};
 ghost use Rattle.stats.specs.declared.FeeStats.{FeeStats};
 ghost use Rattle.peers.specs.declared.PeerRecord.{PeerRecord};
 ghost use Rattle.entries.specs.Layout.{EntriesOk, EntriesKept, entries_of};
@@ -16,8 +17,8 @@ ghost use Rattle.store.specs.Fits.{cache_fits};
 ghost use Rattle.store.specs.Spares.{Spares, lent};
 ghost use Rattle.blocks.specs.Blocks.{drive_out, spent_one, spent, applied_tx, inputs_at, readable, block_refusal};
 ghost use Rattle.blocks.specs.Steps.{Safe, Does};
-ghost use Rattle.blocks.specs.Tests.{code_of};
-ghost use Rattle.blocks.specs.Runs.{seen_of, fresh, Ready, Went, Running, finished};
+ghost use Rattle.blocks.specs.Tests.{refusal_on};
+ghost use Rattle.blocks.specs.Runs.{seen_of, fresh, Ready, Went, Begun, finished};
 ghost use Rattle.blocks.specs.Post.{BlockPromise, handed};
 ghost use Rattle.blocks.specs.Numbers.{of_block};
 
@@ -25,20 +26,20 @@ use answers::write_id;
 use arguments::{counts_agree, is_whole};
 use boxes::lists::id_at;
 use entries::fields::{base_at, created_at};
-use entries::table::{Place, find_entry};
+use entries::table::find_entry;
 use expiring_cache::prune;
-use indexes::owners::{Owner, spender};
+use indexes::owners::spender;
 use pool::remove;
-use pool_types::{BlockOutcome, Counts, Mempool, Sums};
+use pool_types::{Counts, Mempool, Refusal, Sums};
 use stats::{FeeStats, record_confirmation};
 use store::{fits_cache, unfit};
-use words::ids::{Id, same_id};
+use words::ids::Id;
 
 // What a block hands back: the state, and what it answers.
 #[derive(Clone, Copy)]
 pub struct Blocked {
     pub mempool: Mempool,
-    pub outcome: BlockOutcome,
+    pub outcome: Result<usize, Refusal>,
 }
 
 // .. and the statistics, where they go in and out by value.
@@ -46,7 +47,7 @@ pub struct Blocked {
 pub struct Applied {
     pub mempool: Mempool,
     pub stats: FeeStats,
-    pub outcome: BlockOutcome,
+    pub outcome: Result<usize, Refusal>,
 }
 
 // What goes from step to step: how much of the tables is in use, and how many ids were written.
@@ -56,26 +57,22 @@ struct Removal {
     written: usize,
 }
 
-// Whether a transaction is pooled, and then when it was made and its base weight.
+// What is recorded of a transaction that was pooled: when it was made, and its base weight.
 #[derive(Clone, Copy)]
 struct Seen {
-    hit: bool,
     created: u64,
     base: u64,
 }
 
-// What goes from one confirmation to the next: the refusal, or 0; how many ids the cache holds; the next transaction of the block and its first input;
-// what the steps so far left; and whether one is to be recorded, with what.
+// What goes from one confirmation to the next: how many ids the cache holds; the next transaction of the block and its first input; what the steps so
+// far left; and what is to be recorded.
 #[derive(Clone, Copy)]
 struct Run {
-    code: u64,
     cached: usize,
     at: usize,
     from: usize,
     left: Removal,
-    hit: bool,
-    created: u64,
-    base: u64,
+    seen: Option<Seen>,
 }
 
 // ---- one transaction
@@ -94,10 +91,7 @@ fn take_out(
     let before = done.counts;
     let counts = remove(entries, boxes, before, id);
     if counts.pooled == before.pooled {
-        return Removal {
-            counts,
-            written: done.written,
-        };
+        return Removal { counts, ..done };
     }
     write_id(answer, done.written, id);
     Removal {
@@ -106,23 +100,17 @@ fn take_out(
     }
 }
 
-// What the statistics are to know of a transaction.
-fn look(entries: &[u64], pooled: usize, id: Id) -> Seen
+// What the statistics are to know of a transaction, if it is pooled.
+#[tactic(auto, using(crate::specs::Runs::seen_there, crate::specs::Runs::seen_nowhere), unfolding(entries::specs::Layout::EntriesOk))]
+fn look(entries: &[u64], pooled: usize, id: Id) -> Option<Seen>
     requires { EntriesOk entries.now pooled }
     ensures { EntriesKept entries.now pooled → result ≡ seen_of (found (λ x. x.id) (id_of id) (entries_of entries.now pooled)) }
 {
-    match find_entry(entries, pooled, id) {
-        Place::At(i) => Seen {
-            hit: true,
-            created: created_at(entries, i),
-            base: base_at(entries, i),
-        },
-        Place::Nowhere => Seen {
-            hit: false,
-            created: 0,
-            base: 0,
-        },
-    }
+    let i = find_entry(entries, pooled, id)?;
+    Some(Seen {
+        created: created_at(entries, i),
+        base: base_at(entries, i),
+    })
 }
 
 // A box that transaction `id` spends: another one that spends it leaves. It was not confirmed, so it is not recorded.
@@ -140,13 +128,13 @@ fn drive_out(
     let counts = done.counts;
     let owner = spender(boxes, counts.records, key);
     match owner {
-        Owner::By(other) => {
-            if same_id(other, id) {
+        Some(other) => {
+            if other == id {
                 return done;
             }
             take_out(entries, boxes, answer, done, other)
         }
-        Owner::Nobody => done,
+        None => done,
     }
 }
 
@@ -166,10 +154,8 @@ fn spend_inputs(
     ensures { Does (spent (id_of id) (inputs_at inputs.now from (to - from))) entries.old boxes.old answer.old done entries.new boxes.new answer.new result }
 {
     let mut left = done;
-    let mut j = from;
-    while j < to {
+    for j in from..to {
         left = drive_out(entries, boxes, answer, left, id, id_at(inputs, 4, j));
-        j += 1;
     }
     left
 }
@@ -208,31 +194,27 @@ fn next(
     let n = transactions.len() / 5;
     let mut left = run.left;
     let mut from = run.from;
-    let mut i = run.at;
-    while i < n {
+    for i in run.at..n {
         let to = from + transactions[i * 5 + 4] as usize;
         let id = id_at(transactions, 5, i);
         let seen = look(entries, left.counts.pooled, id);
         left = apply_tx(entries, boxes, answer, left, id, inputs, from, to);
         from = to;
-        i += 1;
-        if seen.hit {
+        if seen.is_some() {
             return Run {
-                at: i,
+                at: i + 1,
                 from,
                 left,
-                hit: true,
-                created: seen.created,
-                base: seen.base,
+                seen,
                 ..run
             };
         }
     }
     Run {
-        at: i,
+        at: n,
         from,
         left,
-        hit: false,
+        seen: None,
         ..run
     }
 }
@@ -240,35 +222,37 @@ fn next(
 // ---- the tests
 
 // Whether both lists are whole numbers of records, and the numbers of inputs add up.
+#[tactic(auto, unfolding(crate::specs::Blocks::readable))]
 fn is_readable(transactions: &[u64], inputs: &[u64]) -> bool
     ensures { result ≡ readable transactions.now inputs.now }
 {
-    if !is_whole(transactions, 5) {
-        return false;
-    }
-    if !is_whole(inputs, 4) {
-        return false;
-    }
-    counts_agree(transactions, inputs)
+    is_whole(transactions, 5) && is_whole(inputs, 4) && counts_agree(transactions, inputs)
 }
 
-// Refusals 20, 1 and 2, where the answer has room for so many ids; 0 where none is given.
-fn check_block(mempool: Mempool, room: usize, transactions: &[u64], inputs: &[u64]) -> u64
-    ensures { result ≡ block_refusal mempool room transactions.now inputs.now }
+// Refusals 20, 1 and 2, where the answer has room for so many ids.
+#[tactic(auto, unfolding(crate::specs::Blocks::block_refusal))]
+fn check_block(
+    mempool: Mempool,
+    room: usize,
+    transactions: &[u64],
+    inputs: &[u64],
+) -> Result<(), Refusal>
+    ensures { code_of result ≡ block_refusal mempool room transactions.now inputs.now }
 {
     if mempool.pass.open {
-        return 20;
+        return Err(Refusal::PassOpen);
     }
     if !is_readable(transactions, inputs) {
-        return 1;
+        return Err(Refusal::Lists);
     }
     if room <= mempool.counts.pooled {
-        return 2;
+        return Err(Refusal::AnswerTooSmall);
     }
-    0
+    Ok(())
 }
 
 // Those refusals on any words: where the counts do not fit the words that are lent, 20 or 1.
+#[tactic(auto, unfolding(crate::specs::Tests::refusal_on))]
 fn refusal(
     entries: &[u64],
     boxes: &[u64],
@@ -277,31 +261,29 @@ fn refusal(
     room: usize,
     transactions: &[u64],
     inputs: &[u64],
-) -> u64
-    ensures { result ≡ code_of entries.now boxes.now cache.now mempool room transactions.now inputs.now }
+) -> Result<(), Refusal>
+    ensures { code_of result ≡ refusal_on entries.now boxes.now cache.now mempool room transactions.now inputs.now }
 {
     if !fits_cache(entries, boxes, cache, mempool) {
-        return unfit(mempool.pass.open);
+        return Err(unfit(mempool.pass.open));
     }
     check_block(mempool, room, transactions, inputs)
 }
 
 // ---- the call
 
-// A block before its first transaction, or one that is refused.
-fn fresh(mempool: Mempool, code: u64) -> Run
-    ensures { result ≡ fresh mempool code }
+// A block before its first transaction, on a cache that holds so many ids.
+#[tactic(auto, unfolding(crate::specs::Runs::fresh))]
+fn fresh(mempool: Mempool, cached: usize) -> Run
+    ensures { result ≡ fresh mempool cached }
 {
     let counts = mempool.counts;
     Run {
-        code,
-        cached: mempool.cached,
+        cached,
         at: 0,
         from: 0,
         left: Removal { counts, written: 0 },
-        hit: false,
-        created: 0,
-        base: 0,
+        seen: None,
     }
 }
 
@@ -315,32 +297,23 @@ fn begin(
     time: u64,
     transactions: &[u64],
     inputs: &[u64],
-) -> Run
-    ensures { (s : FeeStats) → Running time transactions.now inputs.now entries.old boxes.old cache.old answer.old mempool s
-        entries.new boxes.new cache.new answer.new result s }
+) -> Result<Run, Refusal>
+    ensures { Begun time transactions.now inputs.now entries.old boxes.old cache.old answer.old mempool
+        entries.new boxes.new cache.new answer.new result }
 {
     let room = answer.len() / 4;
-    let code = refusal(entries, boxes, cache, mempool, room, transactions, inputs);
-    let start = fresh(mempool, code);
-    if code != 0 {
-        return start;
-    }
+    refusal(entries, boxes, cache, mempool, room, transactions, inputs)?;
     let ttl = mempool.config.invalidation_ttl;
     let cached = prune(cache, mempool.cached, ttl, time);
-    let run = Run { cached, ..start };
-    next(entries, boxes, answer, transactions, inputs, run)
+    let run = fresh(mempool, cached);
+    Ok(next(entries, boxes, answer, transactions, inputs, run))
 }
 
-// What is handed back: the state as it was where the block is refused; else the charges begin anew.
+// What is handed back of a block that was applied: the charges begin anew.
+#[tactic(auto, unfolding(crate::specs::Runs::finished))]
 fn finish(mempool: Mempool, run: Run) -> Blocked
     ensures { result ≡ finished mempool run }
 {
-    if run.code != 0 {
-        return Blocked {
-            mempool,
-            outcome: BlockOutcome::NotApplied(run.code),
-        };
-    }
     let left = run.left;
     let counts = left.counts;
     let sums = Sums {
@@ -354,7 +327,7 @@ fn finish(mempool: Mempool, run: Run) -> Blocked
             sums,
             ..mempool
         },
-        outcome: BlockOutcome::Removed(left.written),
+        outcome: Ok(left.written),
     }
 }
 
@@ -373,14 +346,14 @@ pub fn apply_block_at(
 ) -> Blocked
     ensures block_promise { BlockPromise entries.old boxes.old cache.old mempool stats.old time transactions.now inputs.now
         entries.new boxes.new cache.new answer.old answer.new (handed result stats.new) }
-    ensures outcome_value { of_block (block_of result.outcome) ≡ true }
-    ensures by_index { ((ys : List PeerRecord) → Spares (block_of result.outcome) (lent entries.old boxes.old cache.old ys answer.old mempool)
+    ensures outcome_value { of_block (listed_of result.outcome) ≡ true }
+    ensures by_index { ((ys : List PeerRecord) → Spares (listed_of result.outcome) (lent entries.old boxes.old cache.old ys answer.old mempool)
         (lent entries.new boxes.new cache.new ys answer.new result.mempool))
-        × ((j i : ℕ) → block_of result.outcome ≡ refused j i → stats.new ≡ stats.old) }
-    ensures outcome_value_2 { cache_fits entries.old boxes.old cache.old mempool ≡ false → block_of result.outcome ≡ refused (pick mempool.pass.open 20 1) 0 }
-    ensures by_index_2 { (n : ℕ) → block_of result.outcome ≡ wrote n → n ≤ length answer.old / 4 }
+        × ((j i : ℕ) → listed_of result.outcome ≡ refused j i → stats.new ≡ stats.old) }
+    ensures outcome_value_2 { cache_fits entries.old boxes.old cache.old mempool ≡ false → listed_of result.outcome ≡ refused (pick mempool.pass.open 20 1) 0 }
+    ensures by_index_2 { (n : ℕ) → listed_of result.outcome ≡ wrote n → n ≤ length answer.old / 4 }
 {
-    let mut run = begin(
+    let begun = begin(
         entries,
         boxes,
         cache,
@@ -390,14 +363,23 @@ pub fn apply_block_at(
         transactions,
         inputs,
     );
-    while run.hit {
-        record_confirmation(stats, time, run.created, run.base);
+    let mut run = match begun {
+        Ok(run) => run,
+        Err(refusal) => {
+            return Blocked {
+                mempool,
+                outcome: Err(refusal),
+            };
+        }
+    };
+    while let Some(seen) = run.seen {
+        record_confirmation(stats, time, seen.created, seen.base);
         run = next(entries, boxes, answer, transactions, inputs, run);
     }
     finish(mempool, run)
 }
 
-// The same, for callers that hold the statistics by value.
+// The same, for callers that hold the statistics by value, as the C interface reads and stores them.
 pub fn apply_block_by_value(
     entries: &mut [u64],
     boxes: &mut [u64],
@@ -411,12 +393,12 @@ pub fn apply_block_by_value(
 ) -> Applied
     ensures block_promise { BlockPromise entries.old boxes.old cache.old mempool stats time transactions.now inputs.now
         entries.new boxes.new cache.new answer.old answer.new result }
-    ensures outcome_value { of_block (block_of result.outcome) ≡ true }
-    ensures by_index { ((ys : List PeerRecord) → Spares (block_of result.outcome) (lent entries.old boxes.old cache.old ys answer.old mempool)
+    ensures outcome_value { of_block (listed_of result.outcome) ≡ true }
+    ensures by_index { ((ys : List PeerRecord) → Spares (listed_of result.outcome) (lent entries.old boxes.old cache.old ys answer.old mempool)
         (lent entries.new boxes.new cache.new ys answer.new result.mempool))
-        × ((j i : ℕ) → block_of result.outcome ≡ refused j i → result.stats ≡ stats) }
-    ensures outcome_value_2 { cache_fits entries.old boxes.old cache.old mempool ≡ false → block_of result.outcome ≡ refused (pick mempool.pass.open 20 1) 0 }
-    ensures by_index_2 { (n : ℕ) → block_of result.outcome ≡ wrote n → n ≤ length answer.old / 4 }
+        × ((j i : ℕ) → listed_of result.outcome ≡ refused j i → result.stats ≡ stats) }
+    ensures outcome_value_2 { cache_fits entries.old boxes.old cache.old mempool ≡ false → listed_of result.outcome ≡ refused (pick mempool.pass.open 20 1) 0 }
+    ensures by_index_2 { (n : ℕ) → listed_of result.outcome ≡ wrote n → n ≤ length answer.old / 4 }
 {
     let mut lent = stats;
     let left = apply_block_at(

@@ -1,6 +1,6 @@
 -- The indexes of a table's first n slots by column c, 0 the boxes' and 1 the owners' (`Indexed`), what each change of words does to them, and THE
 -- INVARIANT of the table (`BoxesKept`).
-use Rattle.std.specs.Prelude.{ℕ, zero, suc, ◌+◌, ◌-◌, ◌*◌, ◌/◌, ◌^◌, ◌≤◌, ◌<◌, ◌≡◌, List, length, set}
+use Rattle.std.specs.Prelude.{Option, Some, None, ℕ, zero, suc, ◌+◌, ◌-◌, ◌*◌, ◌/◌, ◌^◌, ◌≤◌, ◌<◌, ◌≡◌, List, length, set}
 use Rattle.std.proofs.Common.{ap, ◌∙◌, arith}
 use Rattle.std.proofs.Math.Numerals.{add-one}
 use Rattle.std.proofs.Math.ListN.{get_or, length-set}
@@ -9,6 +9,11 @@ use Rattle.words.specs.Ids.{num, id_at}
 use Rattle.words.specs.Buckets.{bucket_of, bucket-low}
 use Rattle.words.specs.Chains.{checked, Chained, chained-none, chained_same, chained_more}
 use Rattle.boxes.specs.Layout.{box_slots, id_place, kind_place, link_place, head_place, key_place, OfRow, of_row, last_row, link-off, link-unique, head-low, head-high, head-unique, key_at, kind_at, slot_of, slot_at, key_word, slots_used, boxes_of, used-none, no-boxes}
+
+-- the word that names a slot as a head or a link does: one more than its number, and 0 for none
+abbrev pub name_of : Option ℕ → ℕ
+name_of None = 0
+name_of (Some i) = suc i
 
 -- the last word of the id in column c of slot i, and its bucket; the link in slot i, and the head of bucket b
 unfoldable pub last_at : List ℕ → ℕ → ℕ → ℕ

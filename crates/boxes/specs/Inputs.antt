@@ -1,4 +1,5 @@
 -- A transaction's inputs, found one after the other from the last on: what `last_input` leaves to be found is what stands before its answer.
+use Rattle.std.specs.Prelude.{None, Option, Some}
 use Rattle.std.specs.Prelude.{ℕ, zero, suc, ◌+◌, ◌≤◌, ◌<◌, min, ◌≡◌, true, false, List, [], ◌∷◌, ◌++◌}
 use Rattle.std.proofs.Common.{sym, ap, ◌∙◌, append-nil, add-one, arith}
 use Rattle.std.proofs.Math.Decide.{dec_le}
@@ -7,8 +8,6 @@ use Rattle.boxes.specs.Records.{is_input, inputs_of}
 use Rattle.boxes.specs.IndexLaws.{inputs-split}
 use Rattle.boxes.specs.Layout.{box_at, rows_of, rows, slots_used}
 use Rattle.boxes.specs.Searching.{InputAt, LastInput}
-use Rattle.boxes.specs.declared.links.Slot.{Slot}
-use Rattle.boxes.specs.declared.links.Slot.TheVariants.{At, Nowhere}
 
 module _ (l : List ℕ) (k : ℕ) where
   -- one slot more
@@ -32,13 +31,13 @@ module _ (l : List ℕ) (k : ℕ) where
 
 -- ---- what the search answers
 
-module _ (l : List ℕ) (n k below : ℕ) (r : Slot) (a : LastInput l n k below r) where
-  pub last_none : r ≡ Nowhere → inputs_of k (rows_of l (min below (slots_used l n))) ≡ []
+module _ (l : List ℕ) (n k below : ℕ) (r : Option ℕ) (a : LastInput l n k below r) where
+  pub last_none : r ≡ None → inputs_of k (rows_of l (min below (slots_used l n))) ≡ []
   last_none e =
       inputs-skip l k 0 (min below (slots_used l n)) (omega arith) (λ j x y. a.none e j (omega arith) (omega arith))
       ∙ ap (inputs_of k) (of_none rows l)
 
-  pub last_some : (i : ℕ) → r ≡ At i → InputAt l k below r → inputs_of k (rows_of l (min below (slots_used l n))) ≡ inputs_of k (rows_of l i) ++ ((box_at l i).box ∷ [])
+  pub last_some : (i : ℕ) → r ≡ Some i → InputAt l k below r → inputs_of k (rows_of l (min below (slots_used l n))) ≡ inputs_of k (rows_of l i) ++ ((box_at l i).box ∷ [])
   last_some i e b =
       inputs-skip l k (i + 1) (min below (slots_used l n)) (omega (arith, (a.some i e).0, (b.some i e).0)) (λ j x y. (a.some i e).1 j (omega arith) (omega arith) (omega arith))
       ∙ inputs-yes l k i (b.some i e).2

@@ -4,7 +4,7 @@
 -- of all buckets of boxes, those of all buckets of owners, how many slots are used, and the key of the buckets: that is two words more for each slot,
 -- and two. Nothing outside of this crate unfolds a definition of this file.
 use Rattle.std.specs.Prelude.{ℕ, zero, suc, ◌+◌, ◌-◌, ◌*◌, ◌/◌, ◌≤◌, ◌<◌, min, max, ◌≡◌, refl, Bool, true, false, not, ◌&&◌, List, [], ◌∷◌, ◌++◌, map, length, get_or, eqb, ltb}
-use Rattle.std.proofs.Common.{sym, ap, ◌∙◌, arith, eqb-true, eq-eqb, ne_eqb, le-ltb}
+use Rattle.std.proofs.Common.{sym, ap, ◌∙◌, arith, eqb-true, ne_eqb, le-ltb}
 use Rattle.std.proofs.Math.Decide.{dec_lt, ℕ_discrete}
 use Rattle.std.proofs.lemmas.Bool.{not-true, not-false}
 use Rattle.words.specs.Lists.{pick}
@@ -12,6 +12,7 @@ use Rattle.words.specs.Rows.{tab, length-tab, get_or-tab, take-tab, tab-ext, map
 use Rattle.words.specs.Tables.{Table, of_none, of-suc}
 use Rattle.words.specs.Ids.{id_at}
 use Rattle.boxes.specs.Records.{BoxRec, same, hide, index, is_input, inputs_of, drop_owner}
+use Rattle.boxes.specs.Kinds.{kind_number, kind_of}
 use Rattle.boxes.specs.Lookup.{is_entry}
 use Rattle.boxes.specs.Each.{Each}
 use Rattle.boxes.specs.Slots.{Slot, Inert, tidy, leave, index-tidy, inputs-tidy, each-tidy, hide_slot, tidy-append, tidy-leave, tidy-hide, tidy-fewer, length-tidy}
@@ -325,17 +326,6 @@ room-slots l = omega arith
 
 -- ---- what the code reads
 
--- the used slots, as the code clamps the word
-module _ (l : List ℕ) (n w : ℕ) (e : w ≡ used_word l) (p : n ≡ 0 → ⊥) where
-  pub used-few : w < n → n ≡ slots_used l n
-  used-few h = omega (arith, used-some l n (omega (arith, p)))
-
-  pub used-many : n ≤ box_slots l → n ≤ w → box_slots l < w → box_slots l ≡ slots_used l n
-  used-many b h g = omega (arith, used-some l n (omega (arith, p)))
-
-  pub used-word : n ≤ w → w ≤ box_slots l → w ≡ slots_used l n
-  used-word h g = omega (arith, used-some l n (omega (arith, p)))
-
 pub box-is : (l : List ℕ) (i : ℕ) → key_at l 0 i ≡ (box_at l i).box
 unfolding box_at slot_at
 box-is l i = refl
@@ -344,20 +334,6 @@ pub owner-is : (l : List ℕ) (i : ℕ) → key_at l 1 i ≡ (box_at l i).owner
 unfolding box_at slot_at
 owner-is l i = refl
 
-pub out-is : (l : List ℕ) (i : ℕ) → out_kind (kind_at l i) ≡ (box_at l i).out
-unfolding box_at slot_at
-out-is l i = refl
-
-pub gone-is : (l : List ℕ) (i : ℕ) → eqb (kind_at l i) 2 ≡ (slot_at l i).gone
-unfolding slot_at
-gone-is l i = refl
-
-pub input-kind : (q : ℕ) → q ≡ 0 → false ≡ out_kind q
-input-kind q e = rw (eq-eqb q 0 e)
-
-pub other-kind : (q : ℕ) → (q ≡ 0 → ⊥) → not (eqb q 3) ≡ out_kind q
-other-kind q d = rw (ne_eqb q 0 d)
-
 -- an input, as the code tests for it
 module _ (l : List ℕ) (i k : ℕ) (t : Bool) (e : t ≡ eqb (box_at l i).owner k) where
   pub input-other : not t ≡ true → false ≡ is_input k (box_at l i)
@@ -365,6 +341,24 @@ module _ (l : List ℕ) (i k : ℕ) (t : Bool) (e : t ≡ eqb (box_at l i).owner
 
   pub input-own : (u : Bool) → not t ≡ false → u ≡ (box_at l i).out → not u ≡ is_input k (box_at l i)
   input-own u p f = rw (← e, not-false t p, f)
+
+-- a number is read as a kind, of which a slot is what it is of the number
+pub kind-same : (x y q : ℕ) → slot_of x y (kind_number (kind_of q)) ≡ slot_of x y q
+kind-same x y zero = refl
+kind-same x y (suc zero) = refl
+kind-same x y (suc (suc zero)) = refl
+kind-same x y (suc (suc (suc zero))) = refl
+kind-same x y (suc (suc (suc (suc q)))) =
+    let k = suc (suc (suc (suc q))) in
+    rw (le-ltb k 2 (omega arith), ne_eqb k 0 (λ e. omega (arith, e)), ne_eqb k 2 (λ e. omega (arith, e)), ne_eqb k 3 (λ e. omega (arith, e)))
+
+pub out-of : (l : List ℕ) (i : ℕ) → out_kind (kind_number (kind_of (kind_at l i))) ≡ (box_at l i).out
+unfolding box_at slot_at
+out-of l i = ap (λ (s : Slot). s.row.out) (kind-same (key_at l 0 i) (key_at l 1 i) (kind_at l i))
+
+pub gone-of : (l : List ℕ) (i : ℕ) → eqb (kind_number (kind_of (kind_at l i))) 2 ≡ (slot_at l i).gone
+unfolding slot_at
+gone-of l i = ap (λ (s : Slot). s.gone) (kind-same (key_at l 0 i) (key_at l 1 i) (kind_at l i))
 
 -- an entry is told by its kind and its box
 kinds : (o : Bool) (q : ℕ) → (ltb q 2 && same o (out_kind q)) ≡ eqb q (pick o 1 0)
@@ -379,14 +373,9 @@ pub entry-is : (l : List ℕ) (i k : ℕ) (o : Bool) → is_entry o k (box_at l 
 unfolding is_entry box_at slot_at
 entry-is l i k o = ap (λ (t : Bool). eqb (key_at l 0 i) k && t) (kinds o (kind_at l i))
 
--- .. as the code tests for it: t tells whether the slot's box x is the one
-module _ (l : List ℕ) (i k : ℕ) (o : Bool) (x : ℕ) (g : x ≡ (box_at l i).box) (t : Bool) (e : t ≡ eqb x k) where
-  tested : is_entry o k (box_at l i) ≡ (t && eqb (kind_at l i) (pick o 1 0))
-  tested = entry-is l i k o ∙ rw (← g, ← e)
-
-  pub entry_other : not t ≡ true → false ≡ is_entry o k (box_at l i)
-  entry_other p = sym (tested ∙ rw (not-true t p))
-
-  -- w is the slot's kind, and v that of a live record
-  pub entry-kind : not t ≡ false → (w v : ℕ) → w ≡ kind_at l i → v ≡ pick o 1 0 → eqb w v ≡ is_entry o k (box_at l i)
-  entry-kind p w v f h = sym (tested ∙ rw (not-false t p, ← f, ← h))
+-- .. as the code tests for it
+pub entry-of : (l : List ℕ) (i k : ℕ) (o : Bool) → is_entry o k (box_at l i) ≡ (eqb (box_at l i).box k && eqb (kind_number (kind_of (kind_at l i))) (pick o 1 0))
+entry-of l i k o =
+    let same-kind : slot_of 0 0 (kind_number (kind_of (kind_at l i))) ≡ slot_of 0 0 (kind_at l i) = kind-same 0 0 (kind_at l i) in
+    entry-is l i k o
+    ∙ ap (λ (t : Bool). eqb (box_at l i).box k && t) (sym (sym (kinds o (kind_number (kind_of (kind_at l i)))) ∙ ap (λ (s : Slot). s.row.live && same o s.row.out) same-kind ∙ kinds o (kind_at l i)))

@@ -1,3 +1,4 @@
+pub mod Kinds
 pub mod Records
 pub mod Among
 pub mod Entering

@@ -1,4 +1,5 @@
 -- Searches by the indexes find what a search of the decoded records finds.
+use Rattle.std.specs.Prelude.{None, Option, Some}
 use Prim.Native.Nat.{ℕ, zero, suc, ◌+◌, ◌≤◌, ◌<◌}
 use Rattle.std.proofs.Math.Path.{◌≡◌, refl}
 use Rattle.std.proofs.Common.{sym, ap, ◌∙◌, arith}
@@ -14,9 +15,7 @@ use Rattle.words.specs.declared.ids.Id.{Id}
 use Rattle.boxes.specs.Records.{index, lookup, is_input}
 use Rattle.boxes.specs.Lookup.{is_entry, lookup-none, lookup_first}
 use Rattle.boxes.specs.Layout.{box_slots, BoxesOk, id_place, key_at, key_word, box_at, rows_of, slots_used, all_rows, boxes_of, box-is, owner-is, entry-is, index-rows, slots-low, used-none}
-use Rattle.boxes.specs.Index.{last_at, hash_at, link_at, head_at, AllWords, Indexed, BoxesKept}
-use Rattle.boxes.specs.declared.links.Slot.{Slot}
-use Rattle.boxes.specs.declared.links.Slot.TheVariants.{At, Nowhere}
+use Rattle.boxes.specs.Index.{name_of, last_at, hash_at, link_at, head_at, AllWords, Indexed, BoxesKept}
 
 -- ---- the code's tests of a head's word x, and of a link's
 
@@ -103,9 +102,9 @@ passed l c key n v w wk r j a b =
 -- ---- the entry of an index for a box
 
 -- the owner of the record that was found, if one was
-abbrev pub owners_at : List ℕ → Slot → List ℕ
-owners_at l (At i) = (box_at l i).owner ∷ []
-owners_at l Nowhere = []
+abbrev pub owners_at : List ℕ → Option ℕ → List ℕ
+owners_at l (Some i) = (box_at l i).owner ∷ []
+owners_at l None = []
 
 -- the slots below v are left to be visited; `best` names the last that was met, and before it there is none from v on
 pub record Keeps (l : List ℕ) (n : ℕ) (o : Bool) (key : Id) (best v : ℕ) : Type 0 where
@@ -139,17 +138,17 @@ module _ (l : List ℕ) (n : ℕ) (o : Bool) (key : Id) (w : AllWords l) (wk : W
     before : Indexed l 0 n → (j : ℕ) → u ≤ j → j < i → is_entry o (id_of key) (box_at l j) ≡ false
     before x j a b = other-box l o (id_of key) j (passed l 0 key i u w wk (next x) j a b)
 
-    pub keeps-hit : is_entry o (id_of key) (box_at l i) ≡ true → Keeps l n o key v u
+    pub keeps-hit : is_entry o (id_of key) (box_at l i) ≡ true → Keeps l n o key (suc i) u
     keeps-hit t =
         record {
           low = omega (arith, low-next, s.low);
-          top = s.low;
-          such = λ j g. let z : i ≡ j = omega (arith, e, g) in rw (← z) t;
+          top = omega (arith, s.low);
+          such = λ j g. let z : i ≡ j = omega (arith, g) in rw (← z) t;
           old = λ x j a b d. before x j a (go j (dec_lt j i) d);
           inside = λ x. (next x).inside;
         }
       where
-        go : (j : ℕ) → Dec (j < i) → (0 < v → v ≤ suc j → ⊥) → j < i
+        go : (j : ℕ) → Dec (j < i) → (0 < suc i → suc i ≤ suc j → ⊥) → j < i
         go j (yes q) d = q
         go j (no q) d = absurd (d (omega arith) (omega (arith, q)))
 
@@ -169,8 +168,8 @@ module _ (l : List ℕ) (n : ℕ) (o : Bool) (key : Id) (w : AllWords l) (wk : W
         go x j a b d (no q) (no z) = s.old x j (omega (arith, q, z)) b d
 
 -- the answer: on any words a slot that is there, and where the words are kept the entry
-pub record Found (l : List ℕ) (n : ℕ) (o : Bool) (k : ℕ) (r : Slot) : Type 0 where
-  pub within : (i : ℕ) → r ≡ At i → i < box_slots l
+pub record Found (l : List ℕ) (n : ℕ) (o : Bool) (k : ℕ) (r : Option ℕ) : Type 0 where
+  pub within : (i : ℕ) → r ≡ Some i → i < box_slots l
   pub equals : BoxesKept l n → owners_at l r ≡ lookup (index o (boxes_of l n)) k
 
 look : (o : Bool) (l : List ℕ) (n k : ℕ) → lookup (index o (all_rows l n)) k ≡ lookup (index o (boxes_of l n)) k
@@ -185,7 +184,7 @@ someone : (o : Bool) (l : List ℕ) (n k i : ℕ) → i < slots_used l n → is_
 unfolding all_rows rows_of
 someone o l n k i h t b = sym (sym (look o l n k) ∙ lookup_first o k (box_at l) (slots_used l n) i h t b)
 
-pub found-empty : (l : List ℕ) (n : ℕ) (o : Bool) (k : ℕ) → n ≡ 0 → Found l n o k Nowhere
+pub found-empty : (l : List ℕ) (n : ℕ) (o : Bool) (k : ℕ) → n ≡ 0 → Found l n o k None
 found-empty l n o k e =
     record {
       within = λ i f. let z : ◌≡◌ {A = ℕ} 0 1 = cc in absurd (omega arith);
@@ -196,28 +195,26 @@ module _ (l : List ℕ) (n used : ℕ) (o : Bool) (key : Id) (u : used ≡ slots
   right : BoxesKept l n → Indexed l 0 used
   right x = rw u (x.index 0 (omega arith))
 
-  pub keeps-none : (best v : ℕ) → Keeps l used o key best v → v ≡ 0 → best ≡ 0 → Found l n o (id_of key) Nowhere
-  keeps-none best v s e f =
+  pub keeps-end : (r : Option ℕ) (v : ℕ) → Keeps l used o key (name_of r) v → v ≡ 0 → Found l n o (id_of key) r
+  keeps-end None v s e =
       record {
         within = λ i g. let z : ◌≡◌ {A = ℕ} 0 1 = cc in absurd (omega arith);
         equals = λ x. nobody o l n (id_of key) (λ j b. s.old (right x) j (omega arith) (omega arith) (λ p q. omega arith));
       }
-
-  pub keeps-found : (best v i : ℕ) → Keeps l used o key best v → v ≡ 0 → best ≡ suc i → Found l n o (id_of key) (At i)
-  keeps-found best v i s e f =
+  keeps-end (Some i) v s e =
       record {
         within = λ j g. let z : i ≡ j = cc in omega (arith, s.top, slots-low l n h);
-        equals = λ x. someone o l n (id_of key) i (omega (arith, s.top)) (s.such i f) (λ j b. s.old (right x) j (omega arith) (omega (arith, s.top)) (λ p q. omega arith));
+        equals = λ x. someone o l n (id_of key) i (omega (arith, s.top)) (s.such i refl) (λ j b. s.old (right x) j (omega arith) (omega (arith, s.top)) (λ p q. omega arith));
       }
 
 -- ---- the last input of a transaction before a slot
 
-pub record InputAt (l : List ℕ) (k below : ℕ) (r : Slot) : Type 0 where
-  pub some : (i : ℕ) → r ≡ At i → (i < below) × (i < box_slots l) × (is_input k (box_at l i) ≡ true)
+pub record InputAt (l : List ℕ) (k below : ℕ) (r : Option ℕ) : Type 0 where
+  pub some : (i : ℕ) → r ≡ Some i → (i < below) × (i < box_slots l) × (is_input k (box_at l i) ≡ true)
 
-pub record LastInput (l : List ℕ) (n k below : ℕ) (r : Slot) : Type 0 where
-  pub none : r ≡ Nowhere → (j : ℕ) → j < below → j < slots_used l n → is_input k (box_at l j) ≡ false
-  pub some : (i : ℕ) → r ≡ At i → (i < slots_used l n) × ((j : ℕ) → i < j → j < below → j < slots_used l n → is_input k (box_at l j) ≡ false)
+pub record LastInput (l : List ℕ) (n k below : ℕ) (r : Option ℕ) : Type 0 where
+  pub none : r ≡ None → (j : ℕ) → j < below → j < slots_used l n → is_input k (box_at l j) ≡ false
+  pub some : (i : ℕ) → r ≡ Some i → (i < slots_used l n) × ((j : ℕ) → i < j → j < below → j < slots_used l n → is_input k (box_at l j) ≡ false)
 
 -- the slots below v are left to be visited, of the first n; from v on and before `below` there is no input of the transaction
 pub record Lasts (l : List ℕ) (n : ℕ) (key : Id) (below v : ℕ) : Type 0 where
@@ -269,7 +266,7 @@ module _ (l : List ℕ) (n : ℕ) (key : Id) (below : ℕ) (w : AllWords l) (wk 
       go x j a c d (no q) (yes z) = rw z (here (omega arith))
       go x j a c d (no q) (no z) = s.gap x j (omega (arith, q, z)) c d
 
-pub lasts-empty : (l : List ℕ) (n k below : ℕ) → n ≡ 0 → InputAt l k below Nowhere × (BoxesKept l n → LastInput l n k below Nowhere)
+pub lasts-empty : (l : List ℕ) (n k below : ℕ) → n ≡ 0 → InputAt l k below None × (BoxesKept l n → LastInput l n k below None)
 lasts-empty l n k below e = (
   record { some = λ i f. let z : ◌≡◌ {A = ℕ} 0 1 = cc in absurd (omega arith) },
   λ x.
@@ -283,7 +280,7 @@ module _ (l : List ℕ) (n used : ℕ) (key : Id) (below v : ℕ) (u : used ≡ 
   owners : BoxesKept l n → Indexed l 1 used
   owners x = rw u (x.index 1 (omega arith))
 
-  pub lasts-end : v ≡ 0 → InputAt l (id_of key) below Nowhere × (BoxesKept l n → LastInput l n (id_of key) below Nowhere)
+  pub lasts-end : v ≡ 0 → InputAt l (id_of key) below None × (BoxesKept l n → LastInput l n (id_of key) below None)
   lasts-end e = (
     record { some = λ i f. let z : ◌≡◌ {A = ℕ} 0 1 = cc in absurd (omega arith) },
     λ x.
@@ -293,7 +290,7 @@ module _ (l : List ℕ) (n used : ℕ) (key : Id) (below v : ℕ) (u : used ≡ 
         },
   )
 
-  pub lasts-hit : (i : ℕ) → v ≡ suc i → (ltb i below && is_input (id_of key) (box_at l i)) ≡ true → InputAt l (id_of key) below (At i) × (BoxesKept l n → LastInput l n (id_of key) below (At i))
+  pub lasts-hit : (i : ℕ) → v ≡ suc i → (ltb i below && is_input (id_of key) (box_at l i)) ≡ true → InputAt l (id_of key) below (Some i) × (BoxesKept l n → LastInput l n (id_of key) below (Some i))
   lasts-hit i e t = (
     record { some = λ j f. let z : i ≡ j = cc in (omega (arith, part.0), omega (arith, s.low, slots-low l n h), rw (← z) part.1) },
     λ x.

@@ -2,6 +2,7 @@
 // box and one by owner in the same words.
 #![tactic(auto)]
 
+mod kinds;
 pub mod links;
 pub mod lists;
 pub mod records;

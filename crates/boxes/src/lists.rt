@@ -4,7 +4,7 @@ ghost use Rattle.words.specs.Ids.{id_of, id_at};
 ghost use Rattle.boxes.specs.Flat.{count_of, ids_to, ids_of};
 ghost use Rattle.boxes.specs.Among.{among};
 
-use words::ids::{Id, load_id, same_id};
+use words::ids::{Id, get_id};
 
 // How many whole records the list has.
 pub fn count_of(list: &[u64], width: usize) -> usize
@@ -19,7 +19,7 @@ pub fn id_at(list: &[u64], width: usize, i: usize) -> Id
     requires { (4 ≤ width) × (i < count_of width list.now) }
     ensures { id_of result ≡ id_at list.now (i * width) }
 {
-    load_id(list, i * width)
+    get_id(list, i * width)
 }
 
 // Whether an id stands in the records from `from` on and before `to`.
@@ -27,12 +27,10 @@ pub fn among(list: &[u64], width: usize, from: usize, to: usize, key: Id) -> boo
     requires { (4 ≤ width) × (to ≤ count_of width list.now) }
     ensures { result ≡ among (id_of key) (drop from (ids_to width list.now to)) }
 {
-    let mut i = from;
-    while i < to {
-        if same_id(id_at(list, width, i), key) {
+    for i in from..to {
+        if id_at(list, width, i) == key {
             return true;
         }
-        i += 1;
     }
     false
 }

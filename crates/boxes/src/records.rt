@@ -11,35 +11,27 @@ ghost use Rattle.boxes.specs.Writing.{Wrote, WroteBoth};
 ghost use Rattle.boxes.specs.Linking.{OneIn, AllIn};
 ghost use Rattle.boxes.specs.Posts.{Dropped, Behind, Entered};
 
+use crate::kinds::Kind;
 use crate::links::{bucket_in, head, link, link_in};
 use crate::lists::{count_of, id_at};
 use crate::rows::{
-    box_key, box_out, boxes_room, hide_box, is_entry, is_gone, is_owner, live_kind, move_box,
-    put_used, put_words, slots, slots_used, vacate_box,
+    box_key, box_out, boxes_room, hide_box, is_entry, is_gone, is_owner, move_box, put_used,
+    put_words, slots, slots_used, vacate_box,
 };
 use words::ids::Id;
 
 // ---- a transaction leaves
-
-fn one_less(n: usize) -> usize
-    ensures { result ≡ n - 1 }
-{
-    if n == 0 { 0 } else { n - 1 }
-}
 
 // Vacates slot `i` if it holds a record of the transaction. Returns how many of n records there are then.
 fn leave(s: &mut [u64], i: usize, owner: Id, n: usize) -> usize
     requires { i < box_slots s.old }
     ensures { Left s.old s.new i (id_of owner) n result }
 {
-    if is_gone(s, i) {
+    if is_gone(s, i) || !is_owner(s, i, owner) {
         return n;
     }
-    if is_owner(s, i, owner) {
-        vacate_box(s, i);
-        return one_less(n);
-    }
-    n
+    vacate_box(s, i);
+    n.saturating_sub(1)
 }
 
 // The records of a transaction leave the first `used` slots, in which there are n: the walk goes through one bucket of owners.
@@ -47,14 +39,13 @@ fn leave_all(s: &mut [u64], used: usize, n: usize, owner: Id) -> usize
     requires { (0 < used) × (used ≤ box_slots s.old) }
     ensures { AllLeft s.old s.new used n result (id_of owner) }
 {
-    let mut r = n;
-    let mut v = head(s, 1, used, bucket_in(s, owner.d));
-    while v != 0 {
-        let i = v - 1;
-        r = leave(s, i, owner, r);
-        v = link(s, 1, i);
+    let mut left = n;
+    let mut next = head(s, 1, used, bucket_in(s, owner.d));
+    while let Some(i) = next {
+        left = leave(s, i, owner, left);
+        next = link(s, 1, i);
     }
-    r
+    left
 }
 
 // All records that a transaction owns go. Returns how many are left. Their slots stay used until the records are moved together.
@@ -89,18 +80,15 @@ fn compact(s: &mut [u64], used: usize) -> usize
     requires { used ≤ box_slots s.old }
     ensures { Compacted s.old s.new used result }
 {
-    let mut w = 0;
-    let mut r = 0;
-    while r < used {
-        if is_gone(s, r) {
-            r += 1;
-        } else {
-            move_in(s, r, w);
-            w += 1;
-            r += 1;
+    let mut kept = 0;
+    for from in 0..used {
+        if is_gone(s, from) {
+            continue;
         }
+        move_in(s, from, kept);
+        kept += 1;
     }
-    w
+    kept
 }
 
 // Sees to it that so many more records have slots behind the used ones, where they can have. Returns how many are used then. The records stay what they are.
@@ -122,12 +110,9 @@ fn write_list(free: &mut [u64], at: usize, owner: Id, out: bool, list: &[u64], w
     requires le_width { 4 ≤ width }
     ensures { Wrote free.old free.new at (count_of width list.now) (id_of owner) out width list.now }
 {
-    let n = count_of(list, width);
-    let mut i = 0;
-    while i < n {
+    for i in 0..count_of(list, width) {
         let key = id_at(list, width, i);
-        put_words(free, at + i, key, owner, live_kind(out));
-        i += 1;
+        put_words(free, at + i, key, owner, Kind::live(out));
     }
 }
 
@@ -185,11 +170,10 @@ fn hide_all(s: &mut [u64], n: usize, out: bool, key: Id)
     if n == 0 {
         return;
     }
-    let mut v = head(s, 0, n, bucket_in(s, key.d));
-    while v != 0 {
-        let i = v - 1;
+    let mut next = head(s, 0, n, bucket_in(s, key.d));
+    while let Some(i) = next {
         hide_at(s, i, out, key);
-        v = link(s, 0, i);
+        next = link(s, 0, i);
     }
 }
 
@@ -210,10 +194,8 @@ fn enter_slots(s: &mut [u64], used: usize, n: usize)
     requires { used + n ≤ box_slots s.old }
     ensures { AllIn s.old s.new used n }
 {
-    let mut i = 0;
-    while i < n {
+    for i in 0..n {
         enter_slot(s, used + i);
-        i += 1;
     }
 }
 

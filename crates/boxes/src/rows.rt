@@ -7,25 +7,17 @@ ghost use Rattle.words.specs.Ids.{id_of};
 ghost use Rattle.boxes.specs.Records.{is_input};
 ghost use Rattle.boxes.specs.Lookup.{is_entry};
 ghost use Rattle.boxes.specs.Layout.{box_slots, part_slots, boxes_room, BoxesOk, kind_place, used_place, key_at, kind_at, slot_of, box_at, slot_at, slots_used};
+ghost use Rattle.boxes.specs.Kinds.{kind_number, kind_of};
 ghost use Rattle.boxes.specs.Stores.{Put};
 
-use words::ids::{Id, load_id, put_id, same_id};
-
-// The kind of a live input is 0 and that of a live output is 1; a hidden input has 3, and a hidden output another number.
-const GONE: u64 = 2;
-
-const HIDDEN_INPUT: u64 = 3;
-
-const HIDDEN_OUTPUT: u64 = 4;
+use crate::kinds::Kind;
+use words::ids::{Id, get_id, put_id};
 
 // How many slots the lent area has.
 pub(crate) fn slots(s: &[u64]) -> usize
     ensures { result ≡ box_slots s.now }
 {
-    if s.len() < 2 {
-        return 0;
-    }
-    (s.len() - 2) / 13
+    s.len().saturating_sub(2) / 13
 }
 
 // How many records it holds. The rest of the slots is slack: records are moved together once in many insertions, however full it is.
@@ -33,18 +25,6 @@ pub fn boxes_room(s: &[u64]) -> usize
     ensures { result ≡ boxes_room s.now }
 {
     slots(s) * 4 / 5
-}
-
-fn index_of(x: u64) -> usize
-    ensures { result ≡ x }
-{
-    x as usize
-}
-
-fn word_of(x: usize) -> u64
-    ensures { result ≡ x }
-{
-    x as u64
 }
 
 // ---- what is read
@@ -58,14 +38,7 @@ pub(crate) fn slots_used(s: &[u64], n: usize) -> usize
         return 0;
     }
     let most = slots(s);
-    let used = index_of(s[most * 13]);
-    if used < n {
-        return n;
-    }
-    if most < used {
-        return most;
-    }
-    used
+    (s[most * 13] as usize).clamp(n, most)
 }
 
 // The id in column `c` of slot `i`: 0 for the box's, 1 for the owner's.
@@ -73,14 +46,14 @@ pub(crate) fn column_id(s: &[u64], c: usize, i: usize) -> Id
     requires { (c < 2) × (i < box_slots s.now) }
     ensures { id_of result ≡ key_at s.now c i }
 {
-    load_id(s, i * 11 + c * 6)
+    get_id(s, i * 11 + c * 6)
 }
 
-pub(crate) fn kind_at(s: &[u64], i: usize) -> u64
+fn kind_at(s: &[u64], i: usize) -> Kind
     requires { i < box_slots s.now }
-    ensures { result ≡ kind_at s.now i }
+    ensures { result ≡ kind_of (kind_at s.now i) }
 {
-    s[i * 11 + 4]
+    Kind::from(s[i * 11 + 4])
 }
 
 // The box of the record in slot `i`.
@@ -104,11 +77,7 @@ pub fn box_out(s: &[u64], i: usize) -> bool
     requires { i < box_slots s.now }
     ensures { result ≡ (box_at s.now i).out }
 {
-    let kind = kind_at(s, i);
-    if kind == 0 {
-        return false;
-    }
-    kind != HIDDEN_INPUT
+    kind_at(s, i).is_output()
 }
 
 // Whether the slot was vacated.
@@ -116,7 +85,7 @@ pub(crate) fn is_gone(s: &[u64], i: usize) -> bool
     requires { i < box_slots s.now }
     ensures { result ≡ (slot_at s.now i).gone }
 {
-    kind_at(s, i) == GONE
+    kind_at(s, i) == Kind::Gone
 }
 
 // Whether a transaction owns the record.
@@ -124,7 +93,7 @@ pub(crate) fn is_owner(s: &[u64], i: usize, owner: Id) -> bool
     requires { i < box_slots s.now }
     ensures { result ≡ eqb (box_at s.now i).owner (id_of owner) }
 {
-    same_id(box_owner(s, i), owner)
+    box_owner(s, i) == owner
 }
 
 // Whether it is an input of the transaction.
@@ -132,17 +101,7 @@ pub(crate) fn is_input(s: &[u64], i: usize, owner: Id) -> bool
     requires { i < box_slots s.now }
     ensures { result ≡ is_input (id_of owner) (box_at s.now i) }
 {
-    if !is_owner(s, i, owner) {
-        return false;
-    }
-    !box_out(s, i)
-}
-
-// The kind of a live record.
-pub(crate) fn live_kind(out: bool) -> u64
-    ensures { result ≡ pick out 1 0 }
-{
-    if out { 1 } else { 0 }
+    is_owner(s, i, owner) && !box_out(s, i)
 }
 
 // Whether it is an index's entry for a box. The ids are compared first: of two that share a bucket alone they differ, which is foreseen, while the kind is
@@ -151,23 +110,20 @@ pub(crate) fn is_entry(s: &[u64], i: usize, out: bool, key: Id) -> bool
     requires { i < box_slots s.now }
     ensures { result ≡ is_entry out (id_of key) (box_at s.now i) }
 {
-    if !same_id(box_key(s, i), key) {
-        return false;
-    }
-    kind_at(s, i) == live_kind(out)
+    box_key(s, i) == key && kind_at(s, i) == Kind::live(out)
 }
 
 // ---- what is written
 
 // Writes the record of slot `i` of a part that starts with a slot. The words of the indexes stay as they are.
-pub(crate) fn put_words(s: &mut [u64], i: usize, key: Id, owner: Id, kind: u64)
+pub(crate) fn put_words(s: &mut [u64], i: usize, key: Id, owner: Id, kind: Kind)
     requires { i < part_slots s.old }
-    ensures { Put s.old s.new i (slot_of (id_of key) (id_of owner) kind) }
+    ensures { Put s.old s.new i (slot_of (id_of key) (id_of owner) (kind_number kind)) }
 {
     let p = i * 11;
     put_id(s, p, key);
     put_id(s, p + 6, owner);
-    s[p + 4] = kind;
+    s[p + 4] = u64::from(kind);
 }
 
 // The record in slot `from`, written to slot `to` too.
@@ -186,7 +142,7 @@ pub(crate) fn vacate_box(s: &mut [u64], i: usize)
     requires { i < box_slots s.old }
     ensures { s.new ≡ set s.old (kind_place i) 2 }
 {
-    s[i * 11 + 4] = GONE;
+    s[i * 11 + 4] = u64::from(Kind::Gone);
 }
 
 // The record in slot `i` is no more an index's entry. It stays in its chains.
@@ -194,11 +150,7 @@ pub(crate) fn hide_box(s: &mut [u64], i: usize, out: bool)
     requires { i < box_slots s.old }
     ensures { s.new ≡ set s.old (kind_place i) (pick out 4 3) }
 {
-    if out {
-        s[i * 11 + 4] = HIDDEN_OUTPUT;
-    } else {
-        s[i * 11 + 4] = HIDDEN_INPUT;
-    }
+    s[i * 11 + 4] = u64::from(Kind::hidden(out));
 }
 
 // So many slots are used.
@@ -206,8 +158,7 @@ pub(crate) fn put_used(s: &mut [u64], used: usize)
     ensures { s.new ≡ set s.old (used_place (box_slots s.old)) used }
 {
     let at = slots(s) * 13;
-    let w = word_of(used);
     if at < s.len() {
-        s[at] = w;
+        s[at] = used as u64;
     }
 }

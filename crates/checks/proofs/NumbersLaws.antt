@@ -1,4 +1,5 @@
 -- The definitions of a submission's tests give no other number than those of `refusals` (specs/Numbers.antt).
+use Rattle.peers.specs.Peers.{Standing}
 use Rattle.std.specs.Prelude.{ℕ, ◌+◌, not, List, eqb, ltb}
 use Rattle.std.proofs.Math.Path.{refl}
 use Rattle.std.proofs.Math.Bool.{true}
@@ -7,7 +8,6 @@ use Rattle.pool_types.specs.declared.Mempool.{Mempool}
 use Rattle.pool_types.specs.declared.Submission.{Submission}
 use Rattle.arguments.specs.Arguments.{records, height_key, ahead_of}
 use Rattle.expiring_cache.specs.Cache.{Held, held}
-use Rattle.peers.specs.declared.Standing.{Standing}
 use Rattle.entries.specs.Entries.{Entry, pooled}
 use Rattle.boxes.specs.Records.{index}
 use Rattle.indexes.specs.Resolved.{all_resolved, submitted}

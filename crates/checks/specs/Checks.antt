@@ -1,6 +1,7 @@
 -- The tests of a submission up to its verdict (document 01, "A submission"): "Order: 20, 1, 2, 3, 4, 5, 22, 23, 24, 25, 26, 7, 27, 28, 8".
 -- Each definition gives the number of the first test that fails, and 0 where none does. A submission `a` brings two lists of words beside
 -- it: `ins`, 5 words an input, and `outs`, 7 words an output.
+use Rattle.peers.specs.Peers.{Standing}
 use Rattle.std.specs.Prelude.{ℕ, ◌+◌, Bool, true, false, not, ◌&&◌, List, eqb, leb, ltb}
 use Rattle.words.specs.Lists.{pick}
 use Rattle.words.specs.Sums.{cap}
@@ -14,7 +15,6 @@ use Rattle.pool_types.specs.declared.Verdict.TheVariants.{Valid, Invalid, Absent
 use Rattle.arguments.specs.Arguments.{whole, records, fee_of, height_key, ahead_of}
 use Rattle.expiring_cache.specs.Cache.{Held, held}
 use Rattle.peers.specs.Peers.{at_limit, none_free}
-use Rattle.peers.specs.declared.Standing.{Standing}
 use Rattle.entries.specs.Entries.{Entry, pooled}
 use Rattle.boxes.specs.Records.{index}
 use Rattle.indexes.specs.Resolved.{all_resolved, submitted}

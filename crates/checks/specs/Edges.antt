@@ -1,4 +1,6 @@
 -- The tests on their edges, by computation.
+use Rattle.std.specs.Prelude.{None, Some}
+use Rattle.peers.specs.Peers.{account, Standing}
 use Rattle.std.specs.Prelude.{ℕ, ◌+◌, ◌≡◌, refl, Bool, true, false, not, List, [], ◌∷◌, ltb}
 use Rattle.std.proofs.Common.{sym, ap, ◌∙◌, arith}
 use Rattle.words.specs.Lists.{pick, yes, no}
@@ -14,8 +16,6 @@ use Rattle.pool_types.specs.declared.Verdict.TheVariants.{Valid, Invalid, Absent
 use Rattle.arguments.specs.Arguments.{records, fee_of, height_key, ahead_of, max_inputs}
 use Rattle.expiring_cache.specs.Cache.{Held, held}
 use Rattle.entries.specs.Entries.{Entry, pooled}
-use Rattle.peers.specs.declared.Standing.{Standing}
-use Rattle.peers.specs.declared.Standing.TheVariants.{Has, Free}
 use Rattle.boxes.specs.Records.{index}
 use Rattle.indexes.specs.Resolved.{all_resolved, submitted, resolved_by, input_at, inputs_to}
 use Rattle.pool.specs.Pool.{Tables, no_room}
@@ -62,12 +62,12 @@ unfolding call_refusal fee_of
 call-edges = (refl, refl, refl, refl, refl, refl, refl)
 
 -- a limit that is met refuses a peer and nobody else; a peer limit of 0 refuses a peer that has a record, not one that has none
-state-edges : (state_refusal (pool false 5 1 0) [] [] Free (sub 0 (Peer 7) Absent) ≡ 24)
-    × (state_refusal (pool false 5 1 0) [] [] Free (sub 0 Local Absent) ≡ 0)
-    × (state_refusal (pool false 6 0 0) [] [] Free (sub 0 (Peer 7) Absent) ≡ 0)
-    × (state_refusal (pool false 6 0 1) [] [] (Has 0 0) (sub 0 (Peer 7) Absent) ≡ 25)
-    × (state_refusal (pool false 6 1 256) [] [] Free (sub 0 (Peer 7) Absent) ≡ 26)
-    × (state_refusal (pool false 6 1 256) [] [] (Has 9 0) (sub 0 (Peer 7) Absent) ≡ 0)
+state-edges : (state_refusal (pool false 5 1 0) [] [] None (sub 0 (Peer 7) Absent) ≡ 24)
+    × (state_refusal (pool false 5 1 0) [] [] None (sub 0 Local Absent) ≡ 0)
+    × (state_refusal (pool false 6 0 0) [] [] None (sub 0 (Peer 7) Absent) ≡ 0)
+    × (state_refusal (pool false 6 0 1) [] [] (Some (account 0 0)) (sub 0 (Peer 7) Absent) ≡ 25)
+    × (state_refusal (pool false 6 1 256) [] [] None (sub 0 (Peer 7) Absent) ≡ 26)
+    × (state_refusal (pool false 6 1 256) [] [] (Some (account 9 0)) (sub 0 (Peer 7) Absent) ≡ 0)
 unfolding state_refusal peer_refusal
 state-edges = (refl, refl, refl, refl, refl, refl)
 
@@ -119,9 +119,9 @@ unfolding list_refusal height_key inputs_to input_at resolved_by
 list-edges = (refl, refl, refl, refl, refl, refl, refl)
 
 -- 26 comes before 27, and 5 before 26
-order-edges : (refusal_of max_inputs 0 0 (pool false 6 1 256) 4 empty [] Free (sub 0 (Peer 7) Absent) [] [] ≡ 26)
-    × (refusal_of max_inputs 0 0 (pool false 6 1 256) 4 empty [] Free (sub 0 Local Absent) [] [] ≡ 27)
-    × (refusal_of max_inputs 0 0 (pool false 6 1 256) 4 empty [] Free (sub 0 (Peer 7) (Valid 4294967296)) [] [] ≡ 5)
-    × (refusal_of max_inputs 1 0 (pool false 6 1 256) 4 empty [] (Has 0 0) (sub 0 (Peer 7) Invalid) [] [] ≡ 0)
+order-edges : (refusal_of max_inputs 0 0 (pool false 6 1 256) 4 empty [] None (sub 0 (Peer 7) Absent) [] [] ≡ 26)
+    × (refusal_of max_inputs 0 0 (pool false 6 1 256) 4 empty [] None (sub 0 Local Absent) [] [] ≡ 27)
+    × (refusal_of max_inputs 0 0 (pool false 6 1 256) 4 empty [] None (sub 0 (Peer 7) (Valid 4294967296)) [] [] ≡ 5)
+    × (refusal_of max_inputs 1 0 (pool false 6 1 256) 4 empty [] (Some (account 0 0)) (sub 0 (Peer 7) Invalid) [] [] ≡ 0)
 unfolding refusal_of call_refusal state_refusal peer_refusal list_refusal fee_of height_key inputs_to
 order-edges = (refl, refl, refl, refl)

@@ -1,4 +1,5 @@
 -- The numbers that the tests of a submission give, whatever they are asked.
+use Rattle.peers.specs.Peers.{Standing}
 use Rattle.std.specs.Prelude.{ℕ, ◌+◌, ◌≡◌, Bool, false, not, ◌&&◌, List, [], ◌∷◌, leb, ltb}
 use Rattle.std.proofs.Math.Path.{refl}
 use Rattle.std.proofs.Math.Bool.{true}
@@ -8,7 +9,6 @@ use Rattle.pool_types.specs.declared.Mempool.{Mempool}
 use Rattle.pool_types.specs.declared.Submission.{Submission}
 use Rattle.arguments.specs.Arguments.{whole, fee_of}
 use Rattle.peers.specs.Peers.{at_limit, none_free}
-use Rattle.peers.specs.declared.Standing.{Standing}
 use Rattle.boxes.specs.Among.{among}
 use Rattle.checks.specs.Checks.{dear, call_refusal, peer_refusal}
 
@@ -19,10 +19,6 @@ refusals = 1 ∷ 2 ∷ 3 ∷ 4 ∷ 5 ∷ 7 ∷ 8 ∷ 9 ∷ 10 ∷ 20 ∷ 22 ∷ 
 -- a number that a chain of tests gives: 0, or one of these
 pub record Code (n : ℕ) : Type 0 where
   pub is : among n (0 ∷ refusals) ≡ true
-
--- what a call gave, by what that is
-pub code_by : {m n : ℕ} → n ≡ m → Code m → among n (0 ∷ refusals) ≡ true
-code_by e p = rw e p.is
 
 -- one way or the other
 pub either : (t : Bool) (m n : ℕ) → Code m → Code n → Code (pick t m n)

@@ -1,4 +1,6 @@
 -- What a submission that passed every test is known to be: what the steps after the tests rest on.
+use Rattle.peers.specs.Peers.{Standing}
+use Rattle.std.specs.Prelude.{Some}
 use Rattle.std.specs.Prelude.{ℕ, ◌+◌, ◌≤◌, ◌<◌, ◌≡◌, refl, Bool, true, false, ◌&&◌, List, T, eqb, ltb}
 use Rattle.std.proofs.Common.{sym, ap, ◌∙◌, arith, lit<}
 use borrow.Author.Tests.{ltb-false, leb-false, eqb-true, eqb-false, not-false, le-ltb}
@@ -10,10 +12,8 @@ use Rattle.pool_types.specs.declared.Submission.{Submission}
 use Rattle.pool_types.specs.declared.Verdict.{Verdict}
 use Rattle.pool_types.specs.declared.Verdict.TheVariants.{Valid}
 use Rattle.arguments.specs.Arguments.{whole, records, fee_of, fee_sum}
-use Rattle.arguments.specs.declared.FeeSum.TheVariants.{Sum}
 use Rattle.expiring_cache.specs.Cache.{Held, held}
 use Rattle.peers.specs.Peers.{at_limit, none_free}
-use Rattle.peers.specs.declared.Standing.{Standing}
 use Rattle.entries.specs.Entries.{Entry, pooled}
 use Rattle.entries.specs.Layout.{entries_of, entries_room}
 use Rattle.boxes.specs.Layout.{boxes_room}
@@ -110,10 +110,10 @@ module _ (st : Mempool) (rows : List Held) (es : List Entry) (at : Standing) (a 
       (q.0, λ r. greeted st at (sym (yes _ _ _ r) ∙ q.1))
 
 -- by what each of the three chains gave, on any words
-pub passed-by : (most : ℕ) (e b : List ℕ) (st : Mempool) (room : ℕ) (at : Standing) (a : Submission) (ins outs : List ℕ)
+pub passed_by : (most : ℕ) (e b : List ℕ) (st : Mempool) (room : ℕ) (at : Standing) (a : Submission) (ins outs : List ℕ)
     → call_refusal st room a ins outs ≡ 0 → (remote a.source ≡ true → Welcome st at) → records 5 ins ≤ most → Room e b st.counts (records 5 ins + records 7 outs)
     → Passed most e b st room at a ins outs
-passed-by most e b st room at a ins outs p w l f =
+passed_by most e b st room at a ins outs p w l f =
     let k = called st room a ins outs p in
     let h = both_true _ _ k.lists in
     record {
@@ -140,7 +140,7 @@ passed most e b st room rows at a ins outs f c h =
     let s = unopposed st rows (entries_of e st.counts.pooled) at a q.0 in
     let t = passes _ 7 _ tt q.1 in
     let u = passes _ 27 _ tt t.1 in
-    passed-by most e b st room at a ins outs p.0 s.1 (ltb-false _ _ t.0) (room-left e b st.counts _ f c u.0)
+    passed_by most e b st room at a ins outs p.0 s.1 (ltb-false _ _ t.0) (room-left e b st.counts _ f c u.0)
 
 -- what no test refuses is not pooled
 pub unpooled : (most E R : ℕ) (st : Mempool) (room : ℕ) (t : Tables) (rows : List Held) (at : Standing) (a : Submission) (ins outs : List ℕ)
@@ -152,6 +152,6 @@ unpooled most E R st room t rows at a ins outs h =
     (unopposed st rows t.entries at a q.0).0
 
 -- so the fee is the sum that `extract_fee` gives
-pub fee-sum : (outs : List ℕ) → fee_of outs ≤ cap → fee_sum outs ≡ Sum (fee_of outs)
+pub fee-sum : (outs : List ℕ) → fee_of outs ≤ cap → fee_sum outs ≡ Some (fee_of outs)
 unfolding fee_sum
 fee-sum outs h = no _ _ _ (le-ltb cap (fee_of outs) h)

@@ -1,8 +1,9 @@
-// The tests of a submission up to its verdict. Each function gives the number of the first test that fails, and 0 where none does.
+// The tests of a submission up to its verdict. Each function gives the refusal of the first test that fails.
 #![tactic(auto)]
 
 ghost use Rattle.std.specs.Prelude.{◌≡◌, true, false, ◌&&◌, ◌∷◌, ◌+◌, ◌≤◌, ltb};
 ghost use Rattle.words.specs.Sums.{cap};
+ghost use Rattle.pool_types.specs.Refusals.{code_of};
 ghost use Rattle.arguments.specs.Arguments.{whole, records, max_inputs, fee_of, height_key, ahead_of};
 ghost use Rattle.expiring_cache.specs.Layout.{CacheOk, CacheKept, cache_of};
 ghost use Rattle.entries.specs.Layout.{EntriesOk, EntriesKept, entries_of, entries_room};
@@ -15,12 +16,12 @@ ghost use Rattle.checks.specs.Passed.{Welcome, Passed};
 ghost use Rattle.checks.specs.Numbers.{refusals};
 ghost use Rattle.store.specs.Fits.{Testable, Indexed};
 
-use arguments::{FeeSum, are_whole, count_records, extract_fee, height_key, height_order};
+use arguments::{are_whole, count_records, extract_fee, height_key, height_order};
 use entries::table::is_pooled;
 use expiring_cache::contains;
 use indexes::resolved::inputs_resolved;
-use peers::Standing;
-use pool_types::{Mempool, Source, Submission, Verdict};
+use peers::{Standing, at_limit, none_free};
+use pool_types::{Mempool, Refusal, Source, Submission, Verdict};
 use store::lacks_room;
 
 // The greatest size.
@@ -35,13 +36,11 @@ const PEER_RECORDS: usize = 256;
 // ---- what the call brings
 
 // Whether the flagged values add up to more than a word holds.
+#[tactic(auto, unfolding(arguments::specs::Arguments::fee_sum))]
 fn is_fee_beyond(outputs: &[u64]) -> bool
     ensures { result ≡ ltb cap (fee_of outputs.now) }
 {
-    match extract_fee(outputs) {
-        FeeSum::Sum(_) => false,
-        FeeSum::Beyond => true,
-    }
+    extract_fee(outputs).is_none()
 }
 
 // Whether the verdict is valid at a cost of more than 32 bits.
@@ -50,41 +49,42 @@ fn is_dear(verdict: Verdict) -> bool
 {
     match verdict {
         Verdict::Valid(cost) => MAX_COST < cost,
-        Verdict::Invalid => false,
-        Verdict::Absent => false,
+        Verdict::Invalid | Verdict::Absent => false,
     }
 }
 
 // Refusals 20, 1, 2, 3, 4, 5, where the answer has room for so many ids.
+#[tactic(auto, unfolding(crate::specs::Checks::call_refusal))]
 fn check_call(
     mempool: Mempool,
     room: usize,
     sub: Submission,
     inputs: &[u64],
     outputs: &[u64],
-) -> u64
-    ensures { result ≡ call_refusal mempool room sub inputs.now outputs.now }
+) -> Result<(), Refusal>
+    ensures refusals_value { among (code_of result) (0 ∷ refusals) ≡ true }
+    ensures value { code_of result ≡ call_refusal mempool room sub inputs.now outputs.now }
 {
     if mempool.pass.open {
-        return 20;
+        return Err(Refusal::PassOpen);
     }
     if !are_whole(inputs, 5, outputs, 7) {
-        return 1;
+        return Err(Refusal::Lists);
     }
     if room <= mempool.counts.pooled {
-        return 2;
+        return Err(Refusal::AnswerTooSmall);
     }
     if MAX_TX_SIZE < sub.size {
-        return 3;
+        return Err(Refusal::Size);
     }
     if is_fee_beyond(outputs) {
-        return 4;
+        return Err(Refusal::FeeSum);
     }
     let verdict = sub.verdict;
     if is_dear(verdict) {
-        return 5;
+        return Err(Refusal::Cost);
     }
-    0
+    Ok(())
 }
 
 // ---- what the pool holds against it
@@ -92,42 +92,43 @@ fn check_call(
 fn is_remote(source: Source) -> bool
     ensures { result ≡ remote source }
 {
-    match source {
-        Source::Local => false,
-        Source::Peer(_) => true,
-    }
+    matches!(source, Source::Peer(_))
 }
 
 // Refusals 24, 25, 26 of a peer that stands so.
-fn check_peer(mempool: Mempool, standing: Standing) -> u64
-    ensures { result ≡ peer_refusal mempool standing }
+#[tactic(auto, unfolding(crate::specs::Checks::peer_refusal))]
+fn check_peer(mempool: Mempool, standing: Standing) -> Result<(), Refusal>
+    ensures refusals_value { among (code_of result) (0 ∷ refusals) ≡ true }
+    ensures welcome { code_of result ≡ 0 → Welcome mempool standing }
+    ensures value { code_of result ≡ peer_refusal mempool standing }
 {
     if mempool.config.cost_per_block <= mempool.sums.interblock_cost {
-        return 24;
+        return Err(Refusal::BlockLimit);
     }
-    if standing.at_limit(mempool.config.cost_per_peer_per_block) {
-        return 25;
+    if at_limit(standing, mempool.config.cost_per_peer_per_block) {
+        return Err(Refusal::PeerLimit);
     }
-    if standing.none_free(PEER_RECORDS, mempool.sums.peers) {
-        return 26;
+    if none_free(standing, PEER_RECORDS, mempool.sums.peers) {
+        return Err(Refusal::NoPeerRecord);
     }
-    0
+    Ok(())
 }
 
 // Refusals 22, 23, 24, 25, 26. The standing of a local submission is not looked at.
+#[tactic(auto, unfolding(crate::specs::Checks::state_refusal))]
 fn check_state(
     entries: &[u64],
     cache: &[u64],
     mempool: Mempool,
     standing: Standing,
     sub: Submission,
-) -> u64
+) -> Result<(), Refusal>
     requires entries_ok { EntriesOk entries.now mempool.counts.pooled }
     requires cache_ok { CacheOk cache.now mempool.cached }
-    ensures refusals_value { among result (0 ∷ refusals) ≡ true }
-    ensures welcome { result ≡ 0 → remote sub.source ≡ true → Welcome mempool standing }
+    ensures refusals_value { among (code_of result) (0 ∷ refusals) ≡ true }
+    ensures welcome { code_of result ≡ 0 → remote sub.source ≡ true → Welcome mempool standing }
     ensures value { EntriesKept entries.now mempool.counts.pooled → CacheKept cache.now mempool.cached
-        → result ≡ state_refusal mempool (cache_of cache.now mempool.cached) (entries_of entries.now mempool.counts.pooled) standing sub }
+        → code_of result ≡ state_refusal mempool (cache_of cache.now mempool.cached) (entries_of entries.now mempool.counts.pooled) standing sub }
 {
     if contains(
         cache,
@@ -136,16 +137,16 @@ fn check_state(
         sub.time,
         sub.id,
     ) {
-        return 22;
+        return Err(Refusal::HeldInvalid);
     }
     if is_pooled(entries, mempool.counts.pooled, sub.id) {
-        return 23;
+        return Err(Refusal::AlreadyPooled);
     }
     let source = sub.source;
     if is_remote(source) {
         return check_peer(mempool, standing);
     }
-    0
+    Ok(())
 }
 
 // ---- its inputs and outputs
@@ -158,6 +159,7 @@ fn is_ahead(outputs: &[u64], preheader: u32) -> bool
 }
 
 // Refusals 7, 27, 28, 8.
+#[tactic(auto, unfolding(crate::specs::Checks::list_refusal))]
 fn check_lists(
     entries: &[u64],
     boxes: &[u64],
@@ -165,31 +167,32 @@ fn check_lists(
     sub: Submission,
     inputs: &[u64],
     outputs: &[u64],
-) -> u64
+) -> Result<(), Refusal>
     requires { PoolFits entries.now boxes.now mempool.counts }
-    ensures refusals_value { among result (0 ∷ refusals) ≡ true }
-    ensures inputs_bound { result ≡ 0 → (records 5 inputs.now ≤ max_inputs) × Room entries.now boxes.now mempool.counts (records 5 inputs.now + records 7 outputs.now) }
-    ensures value { BoxesKept boxes.now mempool.counts.records → result ≡ list_refusal max_inputs (entries_room entries.now) (boxes_room boxes.now) (tables_of entries.now boxes.now mempool.counts) sub inputs.now outputs.now }
+    ensures refusals_value { among (code_of result) (0 ∷ refusals) ≡ true }
+    ensures inputs_bound { code_of result ≡ 0 → (records 5 inputs.now ≤ max_inputs) × Room entries.now boxes.now mempool.counts (records 5 inputs.now + records 7 outputs.now) }
+    ensures value { BoxesKept boxes.now mempool.counts.records → code_of result ≡ list_refusal max_inputs (entries_room entries.now) (boxes_room boxes.now) (tables_of entries.now boxes.now mempool.counts) sub inputs.now outputs.now }
 {
     if MAX_TX_INPUTS < count_records(inputs, 5) {
-        return 7;
+        return Err(Refusal::TooManyInputs);
     }
     let counts = mempool.counts;
     if lacks_room(entries, boxes, counts, inputs, 5, outputs, 7) {
-        return 27;
+        return Err(Refusal::NoRoom);
     }
     if !inputs_resolved(boxes, counts.records, inputs) {
-        return 28;
+        return Err(Refusal::InputNotFound);
     }
     if is_ahead(outputs, sub.preheader) {
-        return 8;
+        return Err(Refusal::HeightAhead);
     }
-    0
+    Ok(())
 }
 
 // ---- all of them
 
 // Every test up to the verdict, in document 01's order. On any words it gives one of its numbers, and what it lets pass is as the later steps need it.
+#[tactic(auto, unfolding(crate::specs::Checks::refusal_of))]
 pub fn check(
     entries: &[u64],
     boxes: &[u64],
@@ -200,19 +203,13 @@ pub fn check(
     sub: Submission,
     inputs: &[u64],
     outputs: &[u64],
-) -> u64
+) -> Result<(), Refusal>
     requires { Testable entries.now boxes.now cache.now mempool }
-    ensures refusals_value { among result (0 ∷ refusals) ≡ true }
-    ensures passed { result ≡ 0 → Passed max_inputs entries.now boxes.now mempool room standing sub inputs.now outputs.now }
-    ensures value { Indexed entries.now boxes.now cache.now mempool → result ≡ refusal_of max_inputs (entries_room entries.now) (boxes_room boxes.now) mempool room (tables_of entries.now boxes.now mempool.counts) (cache_of cache.now mempool.cached) standing sub inputs.now outputs.now }
+    ensures refusals_value { among (code_of result) (0 ∷ refusals) ≡ true }
+    ensures passed { code_of result ≡ 0 → Passed max_inputs entries.now boxes.now mempool room standing sub inputs.now outputs.now }
+    ensures value { Indexed entries.now boxes.now cache.now mempool → code_of result ≡ refusal_of max_inputs (entries_room entries.now) (boxes_room boxes.now) mempool room (tables_of entries.now boxes.now mempool.counts) (cache_of cache.now mempool.cached) standing sub inputs.now outputs.now }
 {
-    let call = check_call(mempool, room, sub, inputs, outputs);
-    if call != 0 {
-        return call;
-    }
-    let state = check_state(entries, cache, mempool, standing, sub);
-    if state != 0 {
-        return state;
-    }
+    check_call(mempool, room, sub, inputs, outputs)?;
+    check_state(entries, cache, mempool, standing, sub)?;
     check_lists(entries, boxes, mempool, sub, inputs, outputs)
 }

@@ -1,5 +1,6 @@
 -- A pass and a rebroadcast on their edges, by computation: a pool in which transaction 1 spends box 7 and makes box 8, transaction 2 spends box 8 and
 -- makes box 9, and transaction 3 spends box 6, in this order of priority. All were last checked at 100, and the interval is 10.
+use Rattle.std.specs.Prelude.{None, Option, Some}
 use Rattle.std.specs.Prelude.{ℕ, ◌≡◌, refl, Bool, true, false, List, [], ◌∷◌}
 use Rattle.words.specs.Sums.{cap}
 use Rattle.words.specs.Ids.{id_at, join_is}
@@ -11,8 +12,6 @@ use Rattle.pool_types.specs.declared.Verdict.TheVariants.{Valid, Invalid, Absent
 use Rattle.pool_types.specs.Outcomes.{refused, done, wrote, needed, candidate, ended, missing, invalid, valid}
 use Rattle.arguments.specs.Arguments.{biased}
 use Rattle.entries.specs.Entries.{Entry, ahead, stamp}
-use Rattle.entries.specs.declared.fields.ValidationCost.{ValidationCost}
-use Rattle.entries.specs.declared.fields.ValidationCost.TheVariants.{Unmeasured, Measured}
 use Rattle.boxes.specs.Flat.{ids_to}
 use Rattle.indexes.specs.Resolved.{resolved_by}
 use Rattle.pool.specs.Pool.{Tables, insert_tx}
@@ -46,19 +45,19 @@ pool most =
     }
 
 -- an entry of this id, weight and height, and what was measured of it
-abbrev sample : ℕ → ℕ → ℕ → ValidationCost → Entry
+abbrev sample : ℕ → ℕ → ℕ → Option ℕ → Entry
 sample k w h v = record { id = k; weight = w; base = w; size = 0; cost = 70; validation_cost = v; created = 0; last_checked = 100; height_key = biased h; inputs = 1 }
 
 -- transaction 1 has an output at height 60
 abbrev first : Entry
-first = sample 1 30 60 (Measured 5)
+first = sample 1 30 60 (Some 5)
 
 abbrev second : Entry
-second = sample 2 20 50 (Measured 8)
+second = sample 2 20 50 (Some 8)
 
 -- .. and of 3 nothing was measured
 abbrev third : Entry
-third = sample 3 10 50 Unmeasured
+third = sample 3 10 50 None
 
 abbrev two : Tables
 two = insert_tx third (6 ∷ []) [] (insert_tx second (8 ∷ []) (9 ∷ []) (record { entries = []; boxes = [] }))
@@ -121,7 +120,7 @@ found-edges : (told all (passing 111 3 true 2) (0 ∷ []) Absent ≡ still neede
     × (told all (passing 111 3 true 2) (0 ∷ []) (Valid 7)
     ≡ record {
       outcome = valid 2;
-      world = store (record { entries = first ∷ stamp (Measured 7) 111 second ∷ third ∷ []; boxes = all.boxes });
+      world = store (record { entries = first ∷ stamp (Some 7) 111 second ∷ third ∷ []; boxes = all.boxes });
       pass = passing 111 10 false 2;
     })
 unfolding answered answer_refusal lacks_input weighed resolved_by answered_with ahead

@@ -1,5 +1,6 @@
 -- A pass (document 01, "Blocks, returns, passes": "A pass has the rule of `revalidate_within`, in three calls"; cleanup.rs): what open, next and answer
 -- each answer and all that they leave, as a function of the decoded store, the state and the arguments.
+use Rattle.std.specs.Prelude.{None, Option, Some}
 use Rattle.std.specs.Prelude.{ℕ, ◌+◌, ◌-◌, ◌≡◌, refl, Bool, true, false, not, ◌&&◌, List, [], ◌∷◌, eqb, leb, ltb, length}
 use Rattle.words.specs.Lists.{pick}
 use Rattle.words.specs.Find.{found}
@@ -13,8 +14,6 @@ use Rattle.pool_types.specs.Outcomes.{Outcome, refused, done, needed, candidate,
 use Rattle.arguments.specs.Arguments.{ahead_of}
 use Rattle.expiring_cache.specs.Cache.{remember}
 use Rattle.entries.specs.Entries.{Entry, stamped}
-use Rattle.entries.specs.declared.fields.ValidationCost.{ValidationCost}
-use Rattle.entries.specs.declared.fields.ValidationCost.TheVariants.{Unmeasured, Measured}
 use Rattle.boxes.specs.Records.{index, inputs_of}
 use Rattle.indexes.specs.Resolved.{all_resolved, flagged}
 use Rattle.pool.specs.Pool.{remove_tx}
@@ -100,9 +99,9 @@ nexted g w p =
 -- ---- answer (flags, verdict)
 
 -- "its previous cost (0 if none)"
-abbrev pub measured : ValidationCost → ℕ
-measured Unmeasured = 0
-measured (Measured c) = c
+abbrev pub measured : Option ℕ → ℕ
+measured None = 0
+measured (Some c) = c
 
 abbrev pub previous_cost : List Entry → ℕ
 previous_cost [] = 0
@@ -140,7 +139,7 @@ weighed g w p Invalid =
 weighed g w p (Valid c) =
     record {
       outcome = valid p.candidate;
-      world = world (record { entries = stamped p.candidate (Measured c) p.time w.tables.entries; boxes = w.tables.boxes }) w.cache w.sum w.peers;
+      world = world (record { entries = stamped p.candidate (Some c) p.time w.tables.entries; boxes = w.tables.boxes }) w.cache w.sum w.peers;
       pass = answered_with c p;
     }
 

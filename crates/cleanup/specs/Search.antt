@@ -1,4 +1,5 @@
 -- The search for the next candidate, entry by entry: what an entry is to the pass, and what is left to be looked at.
+use Rattle.std.specs.Prelude.{None, Option, Some}
 use Rattle.std.specs.Prelude.{ℕ, ◌+◌, ◌≤◌, ◌<◌, ◌≡◌, refl, Bool, true, false, not, ◌&&◌, List, [], ◌∷◌, leb, drop}
 use Rattle.std.proofs.Common.{sym, ap, ◌∙◌, arith}
 use Rattle.words.specs.Lists.{pick}
@@ -6,8 +7,6 @@ use Rattle.words.specs.Tables.{drop_of, drop_past}
 use Rattle.arguments.specs.Arguments.{ahead_of}
 use Rattle.entries.specs.Entries.{Entry}
 use Rattle.entries.specs.Layout.{entry_at, entries_of, entries}
-use Rattle.entries.specs.declared.table.Place.{Place}
-use Rattle.entries.specs.declared.table.Place.TheVariants.{At, Nowhere}
 use Rattle.cleanup.specs.Passes.{PassNow, due, is_candidate, first_due}
 use Rattle.cleanup.specs.declared.Look.{Look}
 use Rattle.cleanup.specs.declared.Look.TheVariants.{Over, Stop, Take}
@@ -20,27 +19,20 @@ looked interval p e =
     (pick (ahead_of e.height_key p.preheader) Over Take))
 
 -- the id of the entry at a place, or none
-abbrev pub ids_at : List ℕ → Place → List ℕ
-ids_at l (At i) = (entry_at l i).id ∷ []
-ids_at l Nowhere = []
+abbrev pub ids_at : List ℕ → Option ℕ → List ℕ
+ids_at l (Some i) = (entry_at l i).id ∷ []
+ids_at l None = []
 
 -- what a pass offers: none where its sum has reached the limit, else the first due entry
 abbrev offers : ℕ → PassNow → List Entry → List ℕ
 offers interval p es = pick (leb p.limit p.spent) [] (first_due interval p es)
 
 -- the place that a search in the first n entries found
-pub record Sought (l : List ℕ) (n interval : ℕ) (p : PassNow) (r : Place) : Type 0 where
+pub record Sought (l : List ℕ) (n interval : ℕ) (p : PassNow) (r : Option ℕ) : Type 0 where
   pub ids : ids_at l r ≡ offers interval p (entries_of l n)
-  pub within : (i : ℕ) → r ≡ At i → i < n
+  pub within : (i : ℕ) → r ≡ Some i → i < n
 
 -- ---- what an entry is
-
--- the tests, by the fields that were read
-pub due-by : {t : Bool} (g now x c : ℕ) → t ≡ due g now x → x ≡ c → due g now c ≡ t
-due-by g now x c q e = rw (← e) (sym q)
-
-pub ahead-by : {t : Bool} {x key : ℕ} (h : ℕ) → t ≡ ahead_of x h → x ≡ key → ahead_of key h ≡ t
-ahead-by h q e = rw (← e) (sym q)
 
 by : Bool → Bool → Bool → Look
 by d l a = pick (not d) Over (pick l Stop (pick a Over Take))
@@ -89,10 +81,10 @@ module _ (l : List ℕ) (n g : ℕ) (p : PassNow) where
   pub seek-none : Seeking l n g p 0
   seek-none = record { low = omega arith; same = refl }
 
-  nowhere : (i : ℕ) → Nowhere ≡ At i → i < n
+  nowhere : (i : ℕ) → None ≡ Some i → i < n
   nowhere i h = let z : ◌≡◌ {A = ℕ} 0 1 = cc in absurd (omega arith)
 
-  pub seek-end : (i : ℕ) → n ≤ i → Seeking l n g p i → Sought l n g p Nowhere
+  pub seek-end : (i : ℕ) → n ≤ i → Seeking l n g p i → Sought l n g p None
   seek-end i h s = record { ids = none (leb p.limit p.spent) (ap (first_due g p) (sym (drop_past entries l n i h)) ∙ s.same); within = nowhere }
     where
       none : (t : Bool) → [] ≡ first_due g p (entries_of l n) → [] ≡ pick t [] (first_due g p (entries_of l n))
@@ -106,10 +98,10 @@ module _ (l : List ℕ) (n g : ℕ) (p : PassNow) where
     pub seek-over : r ≡ Over → Seeking l n g p (i + 1)
     seek-over o = record { low = omega arith; same = sym (here ∙ rw (over-is g p (entry_at l i) q o)) }
 
-    pub seek_stop : r ≡ Stop → Sought l n g p Nowhere
+    pub seek_stop : r ≡ Stop → Sought l n g p None
     seek_stop o = record { ids = rw (stop_is g p (entry_at l i) q o); within = nowhere }
 
-    pub seek-take : r ≡ Take → Sought l n g p (At i)
+    pub seek-take : r ≡ Take → Sought l n g p (Some i)
     seek-take o =
         let t = take-is g p (entry_at l i) q o in
         record { ids = rw t.0 (sym (here ∙ rw t.1)); within = λ j e. let z : i ≡ j = cc in omega arith }

@@ -1,32 +1,33 @@
 -- The selection for a rebroadcast, entry by entry.
-use Rattle.std.specs.Prelude.{ℕ, ◌+◌, ◌/◌, ◌≤◌, ◌<◌, Bool, not, List, [], ◌∷◌, ◌++◌, map, take, drop}
-use Rattle.std.proofs.Math.Path.{◌≡◌, refl, ap}
+use Rattle.std.specs.Prelude.{ℕ, ◌+◌, ◌/◌, ◌≤◌, ◌<◌, Bool, not, List, [], ◌∷◌, ◌++◌, map, take, drop, Ok, Err, eqb}
+use Rattle.std.specs.Prelude.{Result as Outcome_of}
+use Rattle.std.proofs.Math.Path.{◌≡◌, refl, ap, subst}
 use Rattle.std.proofs.Common.{sym, ◌∙◌, zero-add, take-append-drop, length-append, take_at, take_all}
 use Rattle.std.proofs.Math.Bool.{true, false}
 use native.Mathlib.Omega.{arith}
 use Rattle.std.proofs.Math.Dec.{ltb}
 use Rattle.std.proofs.Math.ListN.{length}
-use borrow.Author.Tests.{ltb-false, eq-eqb, ne_eqb}
+use borrow.Author.Tests.{ltb-false, eq-eqb}
 use Rattle.words.specs.Lists.{pick, yes, no, keep, keep_append, map-append}
 use Rattle.words.specs.Tables.{of_none, of-suc}
 use Rattle.pool_types.specs.declared.Mempool.{Mempool}
-use Rattle.pool_types.specs.declared.ListOutcome.TheVariants.{Listed, NotListed}
-use Rattle.pool_types.specs.Outcomes.{Outcome, refused, wrote, listed_of}
+use Rattle.pool_types.specs.declared.Refusal.{Refusal}
+use Rattle.pool_types.specs.Refusals.{refusal_number, code_of}
+use Rattle.pool_types.specs.Outcomes.{Outcome, wrote, listed_of}
 use Rattle.arguments.specs.Arguments.{whole}
 use Rattle.peers.specs.declared.PeerRecord.{PeerRecord}
 use Rattle.entries.specs.Entries.{Entry}
 use Rattle.entries.specs.Layout.{entry_at, entries_of, entries}
-use Rattle.boxes.specs.Records.{BoxRec, inputs_of}
+use Rattle.boxes.specs.Records.{BoxRec}
 use Rattle.boxes.specs.Flat.{ids_of}
 use Rattle.boxes.specs.Layout.{boxes_of}
 use Rattle.boxes.specs.Index.{BoxesKept}
-use Rattle.indexes.specs.Inputs.{all_among}
 use Rattle.answers.specs.Answers.{Wrote, wrote_nothing, wrote-both}
 use Rattle.pool.specs.Pool.{Tables, tables_of}
 use Rattle.store.specs.World.{World, world_of, Result}
 use Rattle.cleanup.specs.Rebroadcast.{sendable, chosen, rebroadcast_refusal, rebroadcast}
 use Rattle.cleanup.specs.Post.{Sent, Told}
-use Rattle.cleanup.specs.Numbers.{of_rebroadcast}
+use Rattle.cleanup.specs.Numbers.{of_rebroadcast, rebroadcast-refuses}
 use Rattle.cleanup.specs.Laws.{never}
 
 -- of an entry, its id or none
@@ -37,17 +38,6 @@ sent cs rs e = pick (sendable cs rs e) (e.id ∷ []) []
 pub record SelectedOne (l m : List ℕ) (cs : List ℕ) (rs : List BoxRec) (e : Entry) (n r : ℕ) : Type 0 where
   pub wrote : Wrote l m n (sent cs rs e)
   pub count : r ≡ n + length (sent cs rs e)
-
-module _ (cs : List ℕ) (rs : List BoxRec) (e : Entry) (x : ℕ) (z : x ≡ e.id) where
-  pub one-sent : {l m : List ℕ} (n : ℕ) → all_among cs (inputs_of x rs) ≡ true → Wrote l m n (x ∷ []) → SelectedOne l m cs rs e n (n + 1)
-  one-sent {l} {m} n t w =
-      let q : sent cs rs e ≡ x ∷ [] = rw (← z, t) in
-      record { wrote = rw q w; count = rw q }
-
-  pub one_left : (l : List ℕ) (n : ℕ) → all_among cs (inputs_of x rs) ≡ false → SelectedOne l l cs rs e n n
-  one_left l n t =
-      let q : sent cs rs e ≡ [] = rw (← z, t) in
-      record { wrote = rw q (wrote_nothing l n); count = rw q (omega arith) }
 
 -- all that are due were written
 pub record Selected (l m : List ℕ) (most : ℕ) (cs : List ℕ) (t : Tables) (r : ℕ) : Type 0 where
@@ -145,9 +135,9 @@ module _ (cs b : List ℕ) (k : ℕ) (es : List ℕ) (most N : ℕ) where
 sent-as : {l m : List ℕ} {o : Outcome} {w : World} {s t : Result} → s ≡ t → Sent l m o w t → Sent l m o w s
 sent-as q h = rw q h
 
-module _ (l : List ℕ) (st : Mempool) (confirmed : List ℕ) {n : ℕ} (q : n ≡ rebroadcast_refusal st (length l / 4) confirmed) where
+module _ (l : List ℕ) (st : Mempool) (confirmed : List ℕ) (v : Outcome_of Unit Refusal) (q : code_of v ≡ rebroadcast_refusal st (length l / 4) confirmed) where
   -- each id has its place
-  pub sent-placed : n ≡ 0 → {r : ℕ} → r ≤ st.counts.pooled → r ≤ length l / 4
+  pub sent-placed : code_of v ≡ 0 → {r : ℕ} → r ≤ st.counts.pooled → r ≤ length l / 4
   unfolding rebroadcast_refusal
   sent-placed h {r} s = room (not (whole 4 confirmed)) (ltb (length l / 4) (st.counts.pooled + 1)) refl (sym q ∙ h)
     where
@@ -157,30 +147,19 @@ module _ (l : List ℕ) (st : Mempool) (confirmed : List ℕ) {n : ℕ} (q : n �
       room false false x z = omega (arith, ltb-false (length l / 4) (st.counts.pooled + 1) x)
 
   module _ (e b k : List ℕ) (ys : List PeerRecord) where
-    pub sent-refused : (n ≡ 0 → ⊥) → Sent l l (listed_of (NotListed n)) (world_of e b k ys st) (rebroadcast st (world_of e b k ys st) (length l / 4) confirmed)
+    pub sent-refused : (r : Refusal) → v ≡ Err r → of_rebroadcast v ≡ true → Sent l l (listed_of (Err r)) (world_of e b k ys st) (rebroadcast st (world_of e b k ys st) (length l / 4) confirmed)
     unfolding rebroadcast listed_of
-    sent-refused h = rw (← q) (sent-as (no _ _ _ (ne_eqb n 0 h)) (record { outcome = refl; world = refl; wrote = wrote_nothing l 0; placed = omega arith }))
+    sent-refused r z o =
+        let h : eqb (refusal_number r) 0 ≡ false = rebroadcast-refuses r (subst (λ (x : Outcome_of Unit Refusal). of_rebroadcast x ≡ true) z o) in
+        rw (← (sym (ap code_of z) ∙ q)) (sent-as (no _ _ _ h) (record { outcome = refl; world = refl; wrote = wrote_nothing l 0; placed = omega arith }))
 
-    pub sent-selected : n ≡ 0 → (m : List ℕ) (r : ℕ) → r ≤ st.counts.pooled → Selected l m st.config.rebroadcast_count (ids_of 4 confirmed) (tables_of e b st.counts) r
-        → Sent l m (listed_of (Listed r)) (world_of e b k ys st) (rebroadcast st (world_of e b k ys st) (length l / 4) confirmed)
+    pub sent-selected : code_of v ≡ 0 → (m : List ℕ) (r : ℕ) → r ≤ st.counts.pooled → Selected l m st.config.rebroadcast_count (ids_of 4 confirmed) (tables_of e b st.counts) r
+        → Sent l m (listed_of (Ok r)) (world_of e b k ys st) (rebroadcast st (world_of e b k ys st) (length l / 4) confirmed)
     unfolding rebroadcast listed_of
-    sent-selected h m r f s = rw (← q) (sent-as (yes _ _ _ (eq-eqb n 0 h)) (record { outcome = ap wrote s.count; world = refl; wrote = s.wrote; placed = omega (arith, s.count, sent-placed h f) }))
+    sent-selected h m r f s = rw (← q) (sent-as (yes _ _ _ (eq-eqb (code_of v) 0 h)) (record { outcome = ap wrote s.count; world = refl; wrote = s.wrote; placed = omega (arith, s.count, sent-placed h f) }))
 
 -- ---- on any words
 
 module _ {o : Outcome} (l : List ℕ) where
-  pub told-refused : {j i : ℕ} → o ≡ refused j i → Told l l o
-  told-refused e = record { refusal = λ x y q. refl; few = λ n q. never cc }
-
   pub told_wrote : (m : List ℕ) (r : ℕ) → o ≡ wrote r → r ≤ length l / 4 → Told l m o
   told_wrote m r e h = record { refusal = λ x y q. never cc; few = λ n q. let z : r ≡ n = cc in omega arith }
-
--- a number is one of this call
-pub sent-numbered : (st : Mempool) (room : ℕ) (confirmed : List ℕ) {n : ℕ} → n ≡ rebroadcast_refusal st room confirmed → (n ≡ 0 → ⊥) → of_rebroadcast (NotListed n) ≡ true
-unfolding rebroadcast_refusal of_rebroadcast
-sent-numbered st room confirmed {n} q h = go (not (whole 4 confirmed)) (ltb room (st.counts.pooled + 1)) q
-  where
-    go : (t u : Bool) → n ≡ pick t 1 (pick u 2 0) → of_rebroadcast (NotListed n) ≡ true
-    go true u y = rw y
-    go false true y = rw y
-    go false false y = absurd (h y)

@@ -4,19 +4,17 @@
 
 pub mod rebroadcast;
 
-ghost use Rattle.std.specs.Prelude.{◌≡◌, true, false, not, List, [], ◌∷◌, ℕ, ◌+◌, ◌≤◌, max, leb, length};
+ghost use Rattle.std.specs.Prelude.{Some, ◌≡◌, true, false, not, List, [], ◌∷◌, ℕ, ◌+◌, ◌≤◌, max, leb, length};
 ghost use Rattle.words.specs.Lists.{pick};
 ghost use Rattle.words.specs.Find.{found};
 ghost use Rattle.words.specs.Ids.{id_of};
-ghost use Rattle.pool_types.specs.declared.NextOutcome.TheVariants.{NoPass};
-ghost use Rattle.pool_types.specs.declared.AnswerOutcome.TheVariants.{NotAnswered};
-ghost use Rattle.pool_types.specs.Outcomes.{refused, opened_of, next_of, answered_of};
+ghost use Rattle.pool_types.specs.Refusals.{code_of};
+ghost use Rattle.pool_types.specs.Outcomes.{refused, done_of, next_of, answered_of};
 ghost use Rattle.arguments.specs.Arguments.{ahead_of};
 ghost use Rattle.expiring_cache.specs.Layout.{cache_room};
 ghost use Rattle.peers.specs.declared.PeerRecord.{PeerRecord};
 ghost use Rattle.entries.specs.Entries.{stamped};
 ghost use Rattle.entries.specs.Layout.{EntriesOk, EntriesKept, entry_at, entries_of, entries_room};
-ghost use Rattle.entries.specs.declared.fields.ValidationCost.TheVariants.{Measured};
 ghost use Rattle.boxes.specs.Records.{inputs_of};
 ghost use Rattle.boxes.specs.Among.{among};
 ghost use Rattle.boxes.specs.Layout.{BoxesOk, boxes_of};
@@ -32,36 +30,33 @@ ghost use Rattle.cleanup.specs.Numbers.{of_open, of_next, of_answer};
 ghost use Rattle.cleanup.specs.Search.{looked, Sought};
 
 use arguments::height_order;
-use entries::fields::{
-    ValidationCost, entries_room, height_key_at, id_at, last_checked_at, validation_cost_at,
-};
-use entries::table::{Place, find_entry, stamp_entry};
+use entries::fields::{entries_room, height_key_at, id_at, last_checked_at, validation_cost_at};
+use entries::table::{find_entry, stamp_entry};
 use indexes::inputs::count_inputs;
 use indexes::resolved::answer_resolved;
 use pool::remove;
-use pool_types::{AnswerOutcome, Mempool, NextOutcome, OpenOutcome, Pass, Verdict};
+use pool_types::{AnswerOutcome, Mempool, NextOutcome, Pass, Refusal, Verdict};
 use returns::remember;
 use store::fits_cache;
 use words::ids::Id;
-use words::sums::{saturating_add, saturating_sub};
 
 // What the calls hand back: the state, and what they answer.
 #[derive(Clone, Copy)]
 pub struct Opened {
     pub mempool: Mempool,
-    pub outcome: OpenOutcome,
+    pub outcome: Result<(), Refusal>,
 }
 
 #[derive(Clone, Copy)]
 pub struct Offered {
     pub mempool: Mempool,
-    pub outcome: NextOutcome,
+    pub outcome: Result<NextOutcome, Refusal>,
 }
 
 #[derive(Clone, Copy)]
 pub struct Answered {
     pub mempool: Mempool,
-    pub outcome: AnswerOutcome,
+    pub outcome: Result<AnswerOutcome, Refusal>,
 }
 
 // ---- open
@@ -79,23 +74,23 @@ fn no_id() -> Id
 }
 
 // Opens a pass at a time, with a limit of its cost, against a preheader's height.
+#[tactic(auto, unfolding(crate::specs::Numbers::of_open, pool_types::specs::Outcomes::done_of, crate::specs::Passes::opened))]
 pub fn open(mempool: Mempool, time: u64, limit: u64, preheader: u32) -> Opened
-    ensures open_promise { OpenPromise mempool time limit preheader result.mempool (opened_of result.outcome) }
+    ensures open_promise { OpenPromise mempool time limit preheader result.mempool (done_of result.outcome) }
     ensures outcome_value { of_open result.outcome ≡ true }
-    ensures by_index { (e b k : List ℕ) (ys : List PeerRecord) (a : List ℕ) → Spares (opened_of result.outcome) (lent e b k ys a mempool) (lent e b k ys a result.mempool) }
-    ensures pass_only { (w : World) → PassOnly mempool result.mempool (opened_of result.outcome) (opened w (pass_of mempool.pass) time limit preheader) }
+    ensures by_index { (e b k : List ℕ) (ys : List PeerRecord) (a : List ℕ) → Spares (done_of result.outcome) (lent e b k ys a mempool) (lent e b k ys a result.mempool) }
+    ensures pass_only { (w : World) → PassOnly mempool result.mempool (done_of result.outcome) (opened w (pass_of mempool.pass) time limit preheader) }
 {
     if mempool.pass.open {
         return Opened {
             mempool,
-            outcome: OpenOutcome::NotOpened(20),
+            outcome: Err(Refusal::PassOpen),
         };
     }
-    let candidate = no_id();
     let pass = Pass {
         open: true,
         out: false,
-        candidate,
+        candidate: no_id(),
         time,
         limit,
         preheader,
@@ -103,17 +98,18 @@ pub fn open(mempool: Mempool, time: u64, limit: u64, preheader: u32) -> Opened
     };
     Opened {
         mempool: Mempool { pass, ..mempool },
-        outcome: OpenOutcome::Opened,
+        outcome: Ok(()),
     }
 }
 
 // ---- next
 
 // Whether more than the interval passed since the last check.
+#[tactic(auto, unfolding(crate::specs::Passes::due))]
 fn is_due(interval: u64, time: u64, checked: u64) -> bool
     ensures { result ≡ due interval time checked }
 {
-    interval < saturating_sub(time, checked)
+    interval < time.saturating_sub(checked)
 }
 
 // Whether the sum has reached the limit.
@@ -139,6 +135,7 @@ enum Look {
 }
 
 // The limit is tested after the due test, and the height after the limit.
+#[tactic(auto, unfolding(crate::specs::Search::looked))]
 fn look_at(entries: &[u64], i: usize, interval: u64, pass: Pass) -> Look
     requires { EntriesOk entries.now (i + 1) }
     ensures { result ≡ looked interval (pass_of pass) (entry_at entries.now i) }
@@ -155,31 +152,33 @@ fn look_at(entries: &[u64], i: usize, interval: u64, pass: Pass) -> Look
     Look::Take
 }
 
-// The place of the first due entry in priority order, those ahead in height being passed over; nowhere if the sum has reached the limit.
-fn first_due(entries: &[u64], n: usize, interval: u64, pass: Pass) -> Place
+// The place of the first due entry in priority order, those ahead in height being passed over; nowhere if the sum has reached the limit. A loop that
+// yields its answer by `break`, a form that the scope names, and no `for`.
+fn first_due(entries: &[u64], n: usize, interval: u64, pass: Pass) -> Option<usize>
     requires { EntriesOk entries.now n }
     ensures { Sought entries.now n interval (pass_of pass) result }
 {
     let mut i = 0;
     loop {
         if n <= i {
-            break Place::Nowhere;
+            break None;
         }
         match look_at(entries, i, interval, pass) {
             Look::Over => {
                 i += 1;
             }
             Look::Stop => {
-                break Place::Nowhere;
+                break None;
             }
             Look::Take => {
-                break Place::At(i);
+                break Some(i);
             }
         }
     }
 }
 
 // The candidate goes out.
+#[tactic(auto, unfolding(crate::specs::Numbers::of_next, pool_types::specs::Outcomes::next_of, crate::specs::Passes::offered))]
 fn offer(mempool: Mempool, id: Id) -> Offered
     ensures pass_only { (w : World) → PassOnly mempool result.mempool (next_of result.outcome) (offered (id_of id ∷ []) w (pass_of mempool.pass)) }
     ensures outcome_value { of_next result.outcome ≡ true }
@@ -191,20 +190,20 @@ fn offer(mempool: Mempool, id: Id) -> Offered
     };
     Offered {
         mempool: Mempool { pass, ..mempool },
-        outcome: NextOutcome::Candidate(id),
+        outcome: Ok(NextOutcome::Candidate(id)),
     }
 }
 
 // The pass is closed.
+#[tactic(auto, unfolding(crate::specs::Numbers::of_next, pool_types::specs::Outcomes::next_of, crate::specs::Passes::offered))]
 fn end_pass(mempool: Mempool) -> Offered
     ensures pass_only { (w : World) → PassOnly mempool result.mempool (next_of result.outcome) (offered [] w (pass_of mempool.pass)) }
     ensures outcome_value { of_next result.outcome ≡ true }
 {
-    let candidate = no_id();
     let pass = Pass {
         open: false,
         out: false,
-        candidate,
+        candidate: no_id(),
         time: 0,
         limit: 0,
         preheader: 0,
@@ -212,20 +211,13 @@ fn end_pass(mempool: Mempool) -> Offered
     };
     Offered {
         mempool: Mempool { pass, ..mempool },
-        outcome: NextOutcome::Ended(mempool.pass.spent),
+        outcome: Ok(NextOutcome::Ended(mempool.pass.spent)),
     }
-}
-
-// A refusal, and the state as it was.
-fn not_offered(mempool: Mempool, code: u64) -> Offered
-    ensures { result ≡ record { mempool = mempool; outcome = NoPass code } }
-{
-    let outcome = NextOutcome::NoPass(code);
-    Offered { mempool, outcome }
 }
 
 // The next candidate, or the one that waits for its answer; or that the pass has ended. On words and counts that no start and calls left it is
 // safe, and answers with a number of this call.
+#[tactic(auto, unfolding(crate::specs::Numbers::of_next, pool_types::specs::Outcomes::next_of))]
 pub fn next(entries: &[u64], mempool: Mempool) -> Offered
     ensures next_promise { NextPromise entries.now mempool result.mempool (next_of result.outcome) }
     ensures outcome_value { of_next result.outcome ≡ true }
@@ -236,22 +228,27 @@ pub fn next(entries: &[u64], mempool: Mempool) -> Offered
 {
     let pass = mempool.pass;
     if !pass.open {
-        return not_offered(mempool, 21);
+        return Offered {
+            mempool,
+            outcome: Err(Refusal::NoPass),
+        };
     }
     let n = mempool.counts.pooled;
     if entries_room(entries) < n {
-        return not_offered(mempool, 1);
-    }
-    if pass.out {
-        let id = pass.candidate;
         return Offered {
             mempool,
-            outcome: NextOutcome::Candidate(id),
+            outcome: Err(Refusal::Lists),
+        };
+    }
+    if pass.out {
+        return Offered {
+            mempool,
+            outcome: Ok(NextOutcome::Candidate(pass.candidate)),
         };
     }
     match first_due(entries, n, mempool.config.cleanup_interval, pass) {
-        Place::At(i) => offer(mempool, id_at(entries, i)),
-        Place::Nowhere => end_pass(mempool),
+        Some(i) => offer(mempool, id_at(entries, i)),
+        None => end_pass(mempool),
     }
 }
 
@@ -261,67 +258,55 @@ pub fn next(entries: &[u64], mempool: Mempool) -> Offered
 fn none_out(pass: Pass) -> bool
     ensures { result ≡ none_out pass }
 {
-    if pass.open {
-        return !pass.out;
-    }
-    true
+    !(pass.open && pass.out)
 }
 
-// What is answered where the counts do not fit: 21 is named first here too.
-fn unfit(closed: bool) -> u64
-    ensures { result ≡ pick closed 21 1 }
+// Refusals 21 and 1: the first that is met. Counts that do not fit what is lent are refused as another number of flags is.
+#[tactic(auto, unfolding(crate::specs::Numbers::of_answer, crate::specs::Post::answer_code))]
+fn check_answer(
+    entries: &[u64],
+    boxes: &[u64],
+    cache: &[u64],
+    mempool: Mempool,
+    flags: &[u64],
+) -> Result<(), Refusal>
+    ensures refusal_value { of_answer result ≡ true }
+    ensures fits { code_of result ≡ 0 → Testable entries.now boxes.now cache.now mempool × (max mempool.config.invalidation_capacity 1 ≤ cache_room cache.now) }
+    ensures value { cache_fits entries.now boxes.now cache.now mempool ≡ true → BoxesKept boxes.now mempool.counts.records
+        → code_of result ≡ answer_code (none_out mempool.pass) (length flags.now) (length (inputs_of (id_of mempool.pass.candidate) (boxes_of boxes.now mempool.counts.records))) }
+    ensures unfit { cache_fits entries.now boxes.now cache.now mempool ≡ false → code_of result ≡ pick (none_out mempool.pass) 21 1 }
 {
-    if closed {
-        return 21;
+    if none_out(mempool.pass) {
+        return Err(Refusal::NoPass);
     }
-    1
-}
-
-// Refusals 21 and 1: the number of the first that is met, and 0 where none is.
-fn check_answer(boxes: &[u64], mempool: Mempool, flags: &[u64]) -> u64
-    requires { BoxesOk boxes.now mempool.counts.records }
-    ensures result_value { among result (0 ∷ 21 ∷ 1 ∷ []) ≡ true }
-    ensures value { BoxesKept boxes.now mempool.counts.records → result ≡ answer_code (none_out mempool.pass) (length flags.now) (length (inputs_of (id_of mempool.pass.candidate) (boxes_of boxes.now mempool.counts.records))) }
-{
-    let pass = mempool.pass;
-    if none_out(pass) {
-        return 21;
+    if !fits_cache(entries, boxes, cache, mempool) {
+        return Err(Refusal::Lists);
     }
-    let id = pass.candidate;
-    if flags.len() != count_inputs(boxes, mempool.counts.records, id) {
-        return 1;
+    if flags.len() != count_inputs(boxes, mempool.counts.records, mempool.pass.candidate) {
+        return Err(Refusal::Lists);
     }
-    0
+    Ok(())
 }
 
 // ---- answer: what is done
 
-// What was measured, 0 if nothing.
-fn measured(cost: ValidationCost) -> u64
-    ensures { result ≡ measured cost }
-{
-    match cost {
-        ValidationCost::Unmeasured => 0,
-        ValidationCost::Measured(c) => c,
-    }
-}
-
-// The cost that the last validation of a transaction measured.
+// The cost that the last validation of a transaction measured, 0 if none did.
 fn previous_cost(entries: &[u64], n: usize, id: Id) -> u64
     requires { EntriesOk entries.now n }
     ensures { EntriesKept entries.now n → result ≡ previous_cost (found (λ x. x.id) (id_of id) (entries_of entries.now n)) }
 {
     match find_entry(entries, n, id) {
-        Place::At(i) => measured(validation_cost_at(entries, i)),
-        Place::Nowhere => 0,
+        Some(i) => validation_cost_at(entries, i).unwrap_or(0),
+        None => 0,
     }
 }
 
 // The candidate is answered, and this cost is added to the sum.
+#[tactic(auto, unfolding(crate::specs::Passes::answered_with))]
 fn answered_with(pass: Pass, cost: u64) -> Pass
     ensures { pass_of result ≡ answered_with cost (pass_of pass) }
 {
-    let spent = saturating_add(pass.spent, cost);
+    let spent = pass.spent.saturating_add(cost);
     Pass {
         out: false,
         spent,
@@ -353,18 +338,24 @@ fn take_out(entries: &mut [u64], boxes: &mut [u64], mempool: Mempool) -> Mempool
 fn stamp(entries: &mut [u64], mempool: Mempool, cost: u64) -> Mempool
     requires { EntriesOk entries.old mempool.counts.pooled }
     ensures { (b : List ℕ) → BoxesOk b mempool.counts.records → PoolKept entries.old b mempool.counts → Stepped entries.new b mempool result
-        (record { entries = stamped (id_of mempool.pass.candidate) (Measured cost) mempool.pass.time (entries_of entries.old mempool.counts.pooled); boxes = boxes_of b mempool.counts.records })
+        (record { entries = stamped (id_of mempool.pass.candidate) (Some cost) mempool.pass.time (entries_of entries.old mempool.counts.pooled); boxes = boxes_of b mempool.counts.records })
         (answered_with cost (pass_of mempool.pass)) }
 {
     let answering = mempool.pass;
     let id = answering.candidate;
-    let measured = ValidationCost::Measured(cost);
-    stamp_entry(entries, mempool.counts.pooled, id, measured, answering.time);
+    stamp_entry(
+        entries,
+        mempool.counts.pooled,
+        id,
+        Some(cost),
+        answering.time,
+    );
     let pass = answered_with(answering, cost);
     Mempool { pass, ..mempool }
 }
 
 // All inputs are found: the verdict decides.
+#[tactic(auto, unfolding(crate::specs::Numbers::of_answer, pool_types::specs::Outcomes::answered_of))]
 fn weigh(
     entries: &mut [u64],
     boxes: &mut [u64],
@@ -386,35 +377,28 @@ fn weigh(
     match verdict {
         Verdict::Absent => Answered {
             mempool,
-            outcome: AnswerOutcome::AnswerNeeded,
+            outcome: Ok(AnswerOutcome::AnswerNeeded),
         },
         Verdict::Invalid => {
             let known = remember(cache, mempool, mempool.pass.time, id);
             let after = take_out(entries, boxes, known);
             Answered {
                 mempool: after,
-                outcome: AnswerOutcome::FoundInvalid(id),
+                outcome: Ok(AnswerOutcome::FoundInvalid(id)),
             }
         }
         Verdict::Valid(cost) => {
             let after = stamp(entries, mempool, cost);
             Answered {
                 mempool: after,
-                outcome: AnswerOutcome::FoundValid(id),
+                outcome: Ok(AnswerOutcome::FoundValid(id)),
             }
         }
     }
 }
 
-// A refusal, and the state as it was.
-fn not_answered(mempool: Mempool, code: u64) -> Answered
-    ensures { result ≡ record { mempool = mempool; outcome = NotAnswered code } }
-{
-    let outcome = AnswerOutcome::NotAnswered(code);
-    Answered { mempool, outcome }
-}
-
 // What is known of the candidate: one flag 'confirmed' for each of its inputs, in order, and the verdict. Safe as `next` is.
+#[tactic(auto, unfolding(crate::specs::Numbers::of_answer, pool_types::specs::Outcomes::answered_of))]
 pub fn answer(
     entries: &mut [u64],
     boxes: &mut [u64],
@@ -430,20 +414,18 @@ pub fn answer(
         (lent entries.new boxes.new cache.new ys a result.mempool) }
     ensures outcome_value_2 { cache_fits entries.old boxes.old cache.old mempool ≡ false → answered_of result.outcome ≡ refused (pick (none_out mempool.pass) 21 1) 0 }
 {
-    let pass = mempool.pass;
-    if !fits_cache(entries, boxes, cache, mempool) {
-        return not_answered(mempool, unfit(none_out(pass)));
+    if let Err(refusal) = check_answer(entries, boxes, cache, mempool, flags) {
+        return Answered {
+            mempool,
+            outcome: Err(refusal),
+        };
     }
-    let code = check_answer(boxes, mempool, flags);
-    if code != 0 {
-        return not_answered(mempool, code);
-    }
-    let id = pass.candidate;
+    let id = mempool.pass.candidate;
     if !answer_resolved(boxes, mempool.counts.records, id, flags) {
         let after = take_out(entries, boxes, mempool);
         return Answered {
             mempool: after,
-            outcome: AnswerOutcome::InputMissing(id),
+            outcome: Ok(AnswerOutcome::InputMissing(id)),
         };
     }
     weigh(entries, boxes, cache, mempool, verdict)

@@ -1,6 +1,7 @@
 // The transactions to send again, selected into an answer buffer that the caller lends.
 ghost use Rattle.std.specs.Prelude.{◌≡◌, true, false, ◌+◌, ◌≤◌, ◌<◌};
 ghost use Rattle.words.specs.Sums.{cap};
+ghost use Rattle.pool_types.specs.Refusals.{code_of};
 ghost use Rattle.pool_types.specs.Outcomes.{listed_of, refused};
 ghost use Rattle.boxes.specs.Flat.{ids_of};
 ghost use Rattle.boxes.specs.Layout.{boxes_of};
@@ -18,19 +19,21 @@ use arguments::is_whole;
 use entries::fields::id_at;
 use indexes::inputs::all_listed;
 use pool::fits;
-use pool_types::{Counts, ListOutcome, Mempool};
+use pool_types::{Counts, Mempool, Refusal};
 
-// Refusals 1 and 2, where the answer has room for so many ids; 0 where none is given.
-fn check_rebroadcast(mempool: Mempool, room: usize, confirmed: &[u64]) -> u64
-    ensures { result ≡ rebroadcast_refusal mempool room confirmed.now }
+// Refusals 1 and 2, where the answer has room for so many ids.
+#[tactic(auto, unfolding(crate::specs::Numbers::of_rebroadcast, crate::specs::Rebroadcast::rebroadcast_refusal))]
+fn check_rebroadcast(mempool: Mempool, room: usize, confirmed: &[u64]) -> Result<(), Refusal>
+    ensures refusal_value { of_rebroadcast result ≡ true }
+    ensures value { code_of result ≡ rebroadcast_refusal mempool room confirmed.now }
 {
     if !is_whole(confirmed, 4) {
-        return 1;
+        return Err(Refusal::Lists);
     }
     if room <= mempool.counts.pooled {
-        return 2;
+        return Err(Refusal::AnswerTooSmall);
     }
-    0
+    Ok(())
 }
 
 // Writes the id of entry `i` at place `n`, if all its inputs are confirmed, and returns how many are written then.
@@ -71,26 +74,25 @@ fn select(
     ensures selected { BoxesKept boxes.now counts.records → Selected answer.old answer.new most (ids_of 4 confirmed.now) (tables_of entries.now boxes.now counts) result }
 {
     let mut n = 0;
-    let mut i = 0;
-    while i < counts.pooled {
+    for i in 0..counts.pooled {
         if most <= n {
             return n;
         }
         n = select_one(entries, boxes, answer, counts, i, n, confirmed);
-        i += 1;
     }
     n
 }
 
 // The first `rebroadcast_count` transactions in priority order all of whose inputs are in a list of confirmed boxes: their ids, from the first
 // place of the answer on.
+#[tactic(auto, unfolding(crate::specs::Numbers::of_rebroadcast, pool_types::specs::Outcomes::listed_of))]
 pub fn select_for_rebroadcast(
     entries: &[u64],
     boxes: &[u64],
     answer: &mut [u64],
     mempool: Mempool,
     confirmed: &[u64],
-) -> ListOutcome
+) -> Result<usize, Refusal>
     ensures rebroadcast_promise { RebroadcastPromise entries.now boxes.now mempool confirmed.now answer.old answer.new (listed_of result) }
     ensures result_value { of_rebroadcast result ≡ true }
     ensures told { Told answer.old answer.new (listed_of result) }
@@ -98,12 +100,9 @@ pub fn select_for_rebroadcast(
 {
     let counts = mempool.counts;
     if !fits(entries, boxes, counts) {
-        return ListOutcome::NotListed(1);
+        return Err(Refusal::Lists);
     }
-    let code = check_rebroadcast(mempool, answer.len() / 4, confirmed);
-    if code != 0 {
-        return ListOutcome::NotListed(code);
-    }
+    check_rebroadcast(mempool, answer.len() / 4, confirmed)?;
     let most = mempool.config.rebroadcast_count;
-    ListOutcome::Listed(select(entries, boxes, answer, counts, most, confirmed))
+    Ok(select(entries, boxes, answer, counts, most, confirmed))
 }

@@ -1,29 +1,26 @@
 -- What poolrun does with a line that was read (document 01's paragraph on `poolrun`; docs/FORMS.md): the text that it prints and what it holds
 -- afterwards, as a function of the form, of the words that it lends to the pool and of what it held.
-use Rattle.std.specs.Prelude.{ℕ, ◌/◌, ◌≡◌, refl, Bool, true, false, List, [], ◌∷◌, map, eqb, length, take}
+use Rattle.std.specs.Prelude.{Err, Ok, Result}
+use Rattle.pool_types.specs.declared.Refusal.{Refusal}
+use Rattle.pool_types.specs.declared.Mempool.{Mempool}
+use Rattle.pool_types.specs.Refusals.{refusal_number}
+use Rattle.std.specs.Prelude.{ℕ, ◌/◌, ◌≡◌, refl, Bool, true, false, List, [], ◌∷◌, map, length, take, Option, Some, None}
 use Rattle.words.specs.Lists.{pick}
 use Rattle.words.specs.Ids.{id_of}
-use Rattle.pool_types.specs.declared.FeeStrategy.{FeeStrategy}
-use Rattle.pool_types.specs.declared.FeeStrategy.TheVariants.{FeePerByte, FeePerCycle}
+use Rattle.pool_types.specs.declared.FeeStrategy.TheVariants.{FeePerByte}
 use Rattle.pool_types.specs.declared.MempoolConfig.{MempoolConfig}
 use Rattle.pool_types.specs.declared.Source.{Source}
 use Rattle.pool_types.specs.declared.Source.TheVariants.{Local, Peer}
 use Rattle.pool_types.specs.declared.Submission.{Submission}
-use Rattle.pool_types.specs.declared.StartOutcome.{StartOutcome}
-use Rattle.pool_types.specs.declared.StartOutcome.TheVariants.{Ready, NotStarted}
-use Rattle.pool_types.specs.declared.Verdict.{Verdict}
-use Rattle.pool_types.specs.declared.Verdict.TheVariants.{Valid, Invalid, Absent}
 use Rattle.pool_types.specs.Outcomes.{Outcome, refused, done, wrote, needed, candidate, ended, missing, invalid, valid, number, said, entry, none}
 use Rattle.entries.specs.Layout.{entries_room}
-use Rattle.entries.specs.declared.fields.ValidationCost.{ValidationCost}
-use Rattle.entries.specs.declared.fields.ValidationCost.TheVariants.{Unmeasured, Measured}
 use Rattle.boxes.specs.Layout.{boxes_room}
 use Rattle.boxes.specs.Flat.{count_of, ids_to}
 use Rattle.expiring_cache.specs.Layout.{cache_room}
 use Rattle.peers.specs.Flat.{flat_peers, records}
 use Rattle.stats.specs.Stats.{fresh}
 use Rattle.stats.specs.declared.FeeStats.{FeeStats}
-use Rattle.store.specs.World.{World, world_of, Result}
+use Rattle.store.specs.World.{World, world_of, Result as Reached}
 use Rattle.process.specs.Post.{result_of}
 use Rattle.returns.specs.Returns.{returned, invalidated}
 use Rattle.returns.specs.declared.UnconfirmedTx.{UnconfirmedTx}
@@ -36,9 +33,6 @@ use Rattle.fees.specs.Fees.{Bin, bin, recommended, expected_wait, histogram_of}
 use Rattle.mempool.specs.Start.{sizes, empty, started}
 use Rattle.mempool.specs.Listing.{Listing, top_of}
 use Rattle.mempool.specs.Queries.{contains_of, spending_of}
-use Rattle.lines.specs.declared.fields.Optional.{Optional}
-use Rattle.lines.specs.declared.fields.Optional.TheVariants as optional
-use Rattle.lines.specs.declared.fields.Verdict as read
 use Rattle.lines.specs.declared.read.PoolForm.{PoolForm}
 use Rattle.lines.specs.declared.read.TxForm.{TxForm}
 use Rattle.lines.specs.declared.read.ReturnForm.{ReturnForm}
@@ -231,21 +225,18 @@ unfoldable pub histogram_text : fees.Histogram → List ℕ
 histogram_text t = or_refused (bins_text (map pair_of t.bins)) t.outcome
 
 -- .. and ids
-unfoldable pub sent_text : Result → List ℕ
+unfoldable pub sent_text : Reached → List ℕ
 sent_text s = or_refused (listed w_ids s.written) s.outcome
 
 -- ---- what a form's fields stand for
 
 -- "`pool` has the settings in the order of `MempoolConfig`, without the reward delay"
-abbrev pub strategy_of : ℕ → FeeStrategy
-strategy_of byte = pick (eqb byte 0) FeePerCycle FeePerByte
-
 unfoldable pub config_of : PoolForm → MempoolConfig
 config_of p =
     record {
       capacity = p.capacity;
       min_fee = p.min_fee;
-      fee_strategy = strategy_of p.byte;
+      fee_strategy = p.strategy;
       cleanup_interval = p.interval;
       rebroadcast_count = p.rebroadcast;
       invalidation_ttl = p.ttl;
@@ -254,14 +245,9 @@ config_of p =
       cost_per_peer_per_block = p.peer_limit;
     }
 
-unfoldable pub source_of : Optional → Source
-source_of (optional.Some p) = Peer p
-source_of optional.Absent = Local
-
-unfoldable pub verdict_of : read.Verdict → Verdict
-verdict_of (read.TheVariants.Valid c) = Valid c
-verdict_of read.TheVariants.Invalid = Invalid
-verdict_of read.TheVariants.NoVerdict = Absent
+unfoldable pub source_of : Option ℕ → Source
+source_of (Some p) = Peer p
+source_of None = Local
 
 unfoldable pub submission_of : TxForm → Submission
 submission_of t =
@@ -271,12 +257,8 @@ submission_of t =
       size = t.size;
       preheader = t.preheader;
       source = source_of t.peer;
-      verdict = verdict_of t.verdict;
+      verdict = t.verdict;
     }
-
-unfoldable pub measured_of : Optional → ValidationCost
-measured_of (optional.Some c) = Measured c
-measured_of optional.Absent = Unmeasured
 
 -- "with the fields of `UnconfirmedTx`"
 unfoldable pub unconfirmed_of : ReturnForm → UnconfirmedTx
@@ -286,7 +268,7 @@ unconfirmed_of g =
       fee = g.fee;
       size = g.size;
       cost = g.cost;
-      validation_cost = measured_of g.measured;
+      validation_cost = g.measured;
       created = g.created;
       last_checked = g.checked;
       source = source_of g.peer;
@@ -340,8 +322,8 @@ module _ (e b k p a : List ℕ) (h : Kept) where
       }
 
   -- "a later accepted `pool` starts afresh", "its start's time is 0"; a refused one leaves the pool that was. It is a changing call that writes no ids.
-  unfoldable pub started_line : StartOutcome → Line
-  started_line (Ready st) =
+  unfoldable pub started_line : Result Mempool Refusal → Line
+  started_line (Ok st) =
       record {
         text = w_ready;
         ready = true;
@@ -351,9 +333,9 @@ module _ (e b k p a : List ℕ) (h : Kept) where
         stats = fresh 0;
         written = [];
       }
-  started_line (NotStarted n) =
+  started_line (Err n) =
       record {
-        text = refused_text n;
+        text = refused_text (refusal_number n);
         ready = h.ready;
         config = h.mempool.config;
         pass = pass_of h.mempool.pass;
@@ -363,7 +345,7 @@ module _ (e b k p a : List ℕ) (h : Kept) where
       }
 
   -- a submission of the id x: what `process` is to come to. Of the ids that it wrote, those that the answer buffer has places for are held.
-  unfoldable pub processed_line : Result → ℕ → Line
+  unfoldable pub processed_line : Reached → ℕ → Line
   processed_line s x =
       record {
         text = tx_text s.outcome x (take (count_of 4 a) s.written);
@@ -389,7 +371,7 @@ module _ (e b k p a : List ℕ) (h : Kept) where
       }
 
   -- a call that writes no ids and leaves the statistics: where it is not refused it prints t
-  unfoldable pub done_line : List ℕ → Result → Line
+  unfoldable pub done_line : List ℕ → Reached → Line
   done_line t s =
       record {
         text = or_refused t s.outcome;
@@ -423,7 +405,7 @@ module _ (e b k p a : List ℕ) (h : Kept) where
   altered f s (Invalidate time x) = done_line (named w_invalidated (id_of x)) (invalidated h.mempool (world_of e b k (records p) h.mempool) time (id_of x))
   altered f s (Open time limit preheader) = pass_line (opened (world_of e b k (records p) h.mempool) (pass_of h.mempool.pass) time limit preheader)
   altered f s Next = pass_line (nexted h.mempool.config (world_of e b k (records p) h.mempool) (pass_of h.mempool.pass))
-  altered f s (Answer n verdict) = pass_line (answered h.mempool.config (world_of e b k (records p) h.mempool) (pass_of h.mempool.pass) f (verdict_of verdict))
+  altered f s (Answer n verdict) = pass_line (answered h.mempool.config (world_of e b k (records p) h.mempool) (pass_of h.mempool.pass) f verdict)
 
   -- a query's text; `room`: the words of the buffer that lists go to; f: the words that were read, of which a rebroadcast's list has the first
   unfoldable pub asked : ℕ → List ℕ → Query → List ℕ

@@ -1,4 +1,8 @@
 -- Laws of a line: how many ids a submission wrote, what of them stands in the answer buffer, and that a start fits.
+use Rattle.pool_types.specs.declared.Refusal.TheVariants.{Settings}
+use Rattle.pool_types.specs.Refusals.{refusal_number}
+use Rattle.std.specs.Prelude.{Err, Ok, Result}
+use Rattle.pool_types.specs.declared.Refusal.{Refusal}
 use Rattle.std.specs.Prelude.{ℕ, suc, ◌+◌, ◌*◌, ◌/◌, ◌≤◌, min, max, Bool, not, eqb, leb, ltb, length, take, set}
 use Rattle.std.proofs.Math.Path.{◌≡◌, refl, subst}
 use Rattle.std.proofs.Common.{sym, ap, ◌∙◌, add-suc, suc-add, length-set, length-append, length-take, take_all, take-suc-set}
@@ -17,10 +21,7 @@ use Rattle.pool_types.specs.declared.Mempool.{Mempool}
 use Rattle.pool_types.specs.declared.Submission.{Submission}
 use Rattle.pool_types.specs.declared.Verdict.{Verdict}
 use Rattle.pool_types.specs.declared.Verdict.TheVariants.{Valid, Invalid, Absent}
-use Rattle.pool_types.specs.declared.StartOutcome.TheVariants.{Ready, NotStarted}
-use Rattle.pool_types.specs.declared.ListOutcome.{ListOutcome}
-use Rattle.pool_types.specs.declared.ListOutcome.TheVariants.{Listed, NotListed}
-use Rattle.pool_types.specs.Outcomes.{Outcome, refused, wrote, processed_of, block_of, listed_of}
+use Rattle.pool_types.specs.Outcomes.{Outcome, refused, wrote, processed_of, listed_of}
 use Rattle.entries.specs.Entries.{Entry}
 use Rattle.boxes.specs.Flat.{count_of, ids_to, ids_of, ids}
 use Rattle.pool.specs.Pool.{Tables, remove_all, evicted, fits_test}
@@ -29,7 +30,7 @@ use Rattle.boxes.specs.Records.{index, conflicts}
 use Rattle.arguments.specs.Arguments.{fee_of}
 use Rattle.checks.specs.Checks.{refusal_of}
 use Rattle.admit.specs.Admit.{Admitted, settled, seated, contested, admit_spec, crowded, loses, joined, newcomer, base_of}
-use Rattle.store.specs.World.{World, Result, unchanged}
+use Rattle.store.specs.World.{World, Result as Reached, unchanged}
 use Rattle.process.specs.Process.{Limits, standing_of, judged, processed}
 use Rattle.entries.specs.Layout.{entries_room}
 use Rattle.entries.specs.Layout.{kept-none as entries_none}
@@ -74,7 +75,7 @@ use Rattle.console.specs.declared.Told.{Told}
 record SaysAdmitted (room : ℕ) (d : Admitted) : Type 0 where
   is : written_of d.outcome ≡ min room (length d.written)
 
-record SaysResult (room : ℕ) (r : Result) : Type 0 where
+record SaysResult (room : ℕ) (r : Reached) : Type 0 where
   is : written_of r.outcome ≡ min room (length r.written)
 
 picked : {room : ℕ} (t : Bool) (x y : Admitted) → SaysAdmitted room x → SaysAdmitted room y → SaysAdmitted room (pick t x y)
@@ -119,7 +120,7 @@ says-judged visits room st w a ins outs Absent = record { is = omega arith }
 says-judged visits room st w a ins outs Invalid = record { is = omega arith }
 says-judged visits room st w a ins outs (Valid c) = let h = says-admitted visits room st.config w.tables a c ins outs in record { is = h.is }
 
-unless : (room n : ℕ) (r : Result) (w : World) (t : Bool) → SaysResult room r → SaysResult room (pick t r (unchanged (refused n 0) w))
+unless : (room n : ℕ) (r : Reached) (w : World) (t : Bool) → SaysResult room r → SaysResult room (pick t r (unchanged (refused n 0) w))
 unfolding written_of
 unless room n r w true q = q
 unless room n r w false q = record { is = omega arith }
@@ -187,7 +188,7 @@ module _ (a a' ks : List ℕ) (n : Outcome) (y : written_of n ≡ min (length a 
 
 -- ---- a submission's line
 
-module _ (e b k p a e' b' k' p' a' : List ℕ) (h : Kept) (r : Processed) (s : Result) (d : Post h.mempool r e' b' k' (records p') a a' s) (y : written_of s.outcome ≡ min (length a / 4) (length s.written))
+module _ (e b k p a e' b' k' p' a' : List ℕ) (h : Kept) (r : Processed) (s : Reached) (d : Post h.mempool r e' b' k' (records p') a a' s) (y : written_of s.outcome ≡ min (length a / 4) (length s.written))
     (x : ℕ) (o₀ o : List ℕ) (t : Told) (w : ToldOf a' r.mempool h.stats (processed_of r.outcome) (tx_text (processed_of r.outcome) x) o₀ o t) where
   held-processed : ids_to 4 a' t.kept.written ≡ take (count_of 4 a) s.written
   held-processed = held a a' s.written (processed_of r.outcome) (ap written_of d.outcome ∙ y) d.wrote t w
@@ -227,10 +228,10 @@ says-applied st w s room time txs ins = go (eqb (block_refusal st room txs ins) 
 
 -- each id that it wrote has its place, so all are held
 module _ (e b k p a e' b' k' a' : List ℕ) (h : Kept) (r : Applied) (s : BlockResult) (d : BlockPost h.mempool r e' b' k' (records p) a a' s)
-    (y : written_of s.result.outcome ≡ length s.result.written) (o₀ o : List ℕ) (t : Told) (w : ToldOf a' r.mempool r.stats (block_of r.outcome) (removed_text (block_of r.outcome)) o₀ o t) where
+    (y : written_of s.result.outcome ≡ length s.result.written) (o₀ o : List ℕ) (t : Told) (w : ToldOf a' r.mempool r.stats (listed_of r.outcome) (removed_text (listed_of r.outcome)) o₀ o t) where
   held-removed : ids_to 4 a' t.kept.written ≡ s.result.written
   held-removed =
-      held a a' s.result.written (block_of r.outcome) (let z : written_of (block_of r.outcome) ≡ length s.result.written = ap written_of d.outcome ∙ y in omega (arith, z, d.placed)) d.wrote t w
+      held a a' s.result.written (listed_of r.outcome) (let z : written_of (listed_of r.outcome) ≡ length s.result.written = ap written_of d.outcome ∙ y in omega (arith, z, d.placed)) d.wrote t w
       ∙ take_all (count_of 4 a) s.result.written d.placed
 
   pub after-applied : After e' b' k' p a' o₀ o t (applied_line e b k p a h s)
@@ -258,18 +259,18 @@ says-sent st w room c = go (eqb (rebroadcast_refusal st room c) 0)
     go true = refl
     go false = refl
 
-module _ {l m : List ℕ} {r : ListOutcome} {n : ℕ} (st : Mempool) (w : World) (c : List ℕ) (d : Sent l m (listed_of r) w (rebroadcast st w (length l / 4) c)) where
-  sent-count : r ≡ Listed n → n ≡ length (rebroadcast st w (length l / 4) c).written
+module _ {l m : List ℕ} {r : Result ℕ Refusal} (st : Mempool) (w : World) (c : List ℕ) (d : Sent l m (listed_of r) w (rebroadcast st w (length l / 4) c)) where
+  sent-count : {n : ℕ} → r ≡ Ok n → n ≡ length (rebroadcast st w (length l / 4) c).written
   sent-count q = list_count d.outcome q ∙ says-sent st w (length l / 4) c
 
-  pub sent-placed : r ≡ Listed n → n ≤ length l / 4
+  pub sent-placed : {n : ℕ} → r ≡ Ok n → n ≤ length l / 4
   sent-placed q = omega (arith, sent-count q, d.placed)
 
-  pub sent-ids : r ≡ Listed n → listed w_ids (ids_to 4 m n) ≡ sent_text (rebroadcast st w (length l / 4) c)
+  pub sent-ids : {n : ℕ} → r ≡ Ok n → listed w_ids (ids_to 4 m n) ≡ sent_text (rebroadcast st w (length l / 4) c)
   unfolding sent_text
   sent-ids q = list-text (ids_to 4) (listed w_ids) m d.outcome q (sent-count q) (shown-whole l m (rebroadcast st w (length l / 4) c).written d.wrote d.placed)
 
-  pub sent-not : r ≡ NotListed n → refused_text n ≡ sent_text (rebroadcast st w (length l / 4) c)
+  pub sent-not : {f : Refusal} → r ≡ Err f → refused_text (refusal_number f) ≡ sent_text (rebroadcast st w (length l / 4) c)
   unfolding sent_text
   sent-not q = list-refused _ d.outcome q
 
@@ -279,7 +280,7 @@ sent-cut st w room n m f q = ap (λ (x : List ℕ). sent_text (rebroadcast st w 
 
 -- ---- the line of a call that writes no ids
 
-pub after-done : (e b k p a e' b' k' p' o₀ o : List ℕ) (h : Kept) (r : Mempool) (n : Outcome) (s : Result) (u : List ℕ) (len : ℕ) → Meets h.mempool r n e' b' k' (records p') s → Prints (or_refused u n) 0 o₀ o len
+pub after-done : (e b k p a e' b' k' p' o₀ o : List ℕ) (h : Kept) (r : Mempool) (n : Outcome) (s : Reached) (u : List ℕ) (len : ℕ) → Meets h.mempool r n e' b' k' (records p') s → Prints (or_refused u n) 0 o₀ o len
     → After e' b' k' p' a o₀ o (record { kept = record { ready = true; mempool = r; stats = h.stats; written = 0 }; len = len }) (done_line e b k p a h u s)
 unfolding done_line
 after-done e b k p a e' b' k' p' o₀ o h r n s u len d t =
@@ -369,17 +370,17 @@ module _ (e b k p : List ℕ) (c : MempoolConfig) where
   kept-empty : sized sizes_here ≡ true → settles sizes_here c ≡ true → Sound e b k (records p) (empty c)
   kept-empty t u = let z = sized-needs t in let y = settled-needs u in kept_new e b k p c (omega (arith, z.0, y)) z.1
 
-  pub kept-started : (st : Mempool) → started sizes_here c ≡ Ready st → Sound e b k (records p) st
+  pub kept-started : (st : Mempool) → started sizes_here c ≡ Ok st → Sound e b k (records p) st
   unfolding started
   kept-started st h = go (sized sizes_here) (settles sizes_here c) refl refl h
     where
-      go : (t u : Bool) → sized sizes_here ≡ t → settles sizes_here c ≡ u → pick t (pick u (Ready (empty c)) (NotStarted 6)) (NotStarted 6) ≡ Ready st → Sound e b k (records p) st
+      go : (t u : Bool) → sized sizes_here ≡ t → settles sizes_here c ≡ u → pick t (pick u (Ok (empty c)) (Err Settings)) (Err Settings) ≡ Ok st → Sound e b k (records p) st
       go true true q r z = let y : empty c ≡ st = cc in subst (λ (s : Mempool). Sound e b k (records p) s) y (kept-empty q r)
       go true false q r z = let y : ◌≡◌ {A = ℕ} 0 1 = cc in absurd (omega arith)
       go false u q r z = let y : ◌≡◌ {A = ℕ} 0 1 = cc in absurd (omega arith)
 
   module _ (a o₀ o : List ℕ) (h : Kept) (len : ℕ) (f : Holds e b k p a h) where
-    pub after-ready : (st : Mempool) (s : FeeStats) → started sizes_here c ≡ Ready st → s ≡ fresh 0 → Prints w_ready 0 o₀ o len
+    pub after-ready : (st : Mempool) (s : FeeStats) → started sizes_here c ≡ Ok st → s ≡ fresh 0 → Prints w_ready 0 o₀ o len
         → After e b k p a o₀ o (record { kept = record { ready = true; mempool = st; stats = s; written = 0 }; len = len }) (started_line e b k p a h (started sizes_here c))
     unfolding started_line
     after-ready st s q z t =
@@ -395,7 +396,7 @@ module _ (e b k p : List ℕ) (c : MempoolConfig) where
           written = of_none (ids 4) a;
         })
 
-    pub after-refused : (n : ℕ) → started sizes_here c ≡ NotStarted n → Prints (refused_text n) 0 o₀ o len
+    pub after-refused : (f : Refusal) → started sizes_here c ≡ Err f → Prints (refused_text (refusal_number f)) 0 o₀ o len
         → After e b k p a o₀ o (record { kept = record { ready = h.ready; mempool = h.mempool; stats = h.stats; written = 0 }; len = len }) (started_line e b k p a h (started sizes_here c))
     unfolding started_line
     after-refused n q t =

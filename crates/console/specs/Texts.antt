@@ -1,4 +1,10 @@
 -- The text of an outcome, case by case, as the code finds it.
+use Rattle.std.specs.Prelude.{Some, None}
+use Rattle.pool_types.specs.Refusals.{refusal_number}
+use Rattle.std.specs.Prelude.{Bool, Err, Ok, Option, Result}
+use Rattle.pool_types.specs.declared.Refusal.{Refusal}
+use Rattle.pool_types.specs.declared.PooledTx.{PooledTx}
+use Rattle.std.specs.Prelude.{Option}
 use Rattle.std.specs.Prelude.{ℕ, zero, suc, ◌+◌, ◌/◌, ◌≤◌, min, ◌≡◌, refl, Bool, true, false, ◌||◌, List, [], ◌∷◌, map, eqb, leb, ltb, take, replicate}
 use Rattle.std.proofs.Common.{sym, ◌∙◌, subst, add-one, arith, length-take, length-set, ltb-false}
 use Rattle.std.proofs.Math.Path.{ap}
@@ -9,16 +15,8 @@ use Rattle.words.specs.Rows.{rec_at}
 use Rattle.words.specs.Tables.{Table, of_none, of-suc}
 use Rattle.words.specs.Ids.{id_of}
 use Rattle.words.specs.declared.ids.Id.{Id}
-use Rattle.pool_types.specs.declared.FeeStrategy.{FeeStrategy}
 use Rattle.pool_types.specs.declared.Mempool.{Mempool}
 use Rattle.pool_types.specs.declared.Source.{Source}
-use Rattle.pool_types.specs.declared.Verdict.{Verdict}
-use Rattle.pool_types.specs.declared.TestOutcome.{TestOutcome}
-use Rattle.pool_types.specs.declared.TestOutcome.TheVariants.{Yes, No, NotTested}
-use Rattle.pool_types.specs.declared.EntryOutcome.{EntryOutcome}
-use Rattle.pool_types.specs.declared.EntryOutcome.TheVariants as entry-outcome
-use Rattle.pool_types.specs.declared.ListOutcome.{ListOutcome}
-use Rattle.pool_types.specs.declared.ListOutcome.TheVariants.{Listed, NotListed}
 use Rattle.pool_types.specs.declared.ProcessingOutcome.{ProcessingOutcome}
 use Rattle.pool_types.specs.declared.ProcessingOutcome.TheVariants.{Accepted, Replaced, DoubleSpendLoser, VerdictNeeded, Declined}
 use Rattle.pool_types.specs.Outcomes.{Outcome, refused, wrote, tested_of, looked_of, listed_of, processed_of}
@@ -34,37 +32,36 @@ use Rattle.mempool.specs.Listing.{Row, brief, Listing, listing, rows_of, top_of,
 use Rattle.lines.specs.declared.read.PoolForm.{PoolForm}
 use Rattle.lines.specs.declared.read.TxForm.{TxForm}
 use Rattle.lines.specs.declared.read.ReturnForm.{ReturnForm}
-use Rattle.entries.specs.declared.fields.ValidationCost.{ValidationCost}
 use Rattle.replies.specs.Replies.{named, replaced_text, pooled_text, row_of, spender_text, pair_dec, pair_at, pairs_of, pairs, bins_text}
-use Rattle.console.specs.Console.{w_yes, w_no, w_none, w_needed, w_accepted, refused_text, query_text, or_refused, listing_text, pair_of, histogram_text, tx_text, strategy_of, config_of, source_of, verdict_of, submission_of, measured_of, unconfirmed_of, no_config, nothing}
+use Rattle.console.specs.Console.{w_yes, w_no, w_none, w_needed, w_accepted, refused_text, query_text, or_refused, listing_text, pair_of, histogram_text, tx_text, config_of, source_of, submission_of, unconfirmed_of, no_config, nothing}
 use Rattle.pool_types.specs.Outcomes.{written_of}
 
 pub prints-as : {t u o₀ o : List ℕ} {n : ℕ} → t ≡ u → Prints t 0 o₀ o n → Prints u 0 o₀ o n
 prints-as {t} {u} {o₀} {o} {n} e p = subst (λ (x : List ℕ). Prints x 0 o₀ o n) e p
 
-module _ {r : TestOutcome} {o : Outcome} (q : tested_of r ≡ o) where
-  pub tested-yes : r ≡ Yes → w_yes ≡ query_text o
+module _ {r : Result Bool Refusal} {o : Outcome} (q : tested_of r ≡ o) where
+  pub tested-yes : r ≡ Ok true → w_yes ≡ query_text o
   unfolding tested_of query_text
   tested-yes p = rw (← q, p)
 
-  pub tested-no : r ≡ No → w_no ≡ query_text o
+  pub tested-no : r ≡ Ok false → w_no ≡ query_text o
   unfolding tested_of query_text
   tested-no p = rw (← q, p)
 
-  pub tested-not : {n : ℕ} → r ≡ NotTested n → refused_text n ≡ query_text o
+  pub tested-not : {f : Refusal} → r ≡ Err f → refused_text (refusal_number f) ≡ query_text o
   unfolding tested_of query_text
   tested-not p = rw (← q, p)
 
-module _ {r : EntryOutcome} {o : Outcome} (q : looked_of r ≡ o) where
-  pub looked-entry : {x : Id} {w b : ℕ} → r ≡ entry-outcome.Entry x w b → spender_text (row_of (id_of x) w b) ≡ query_text o
+module _ {r : Result (Option PooledTx) Refusal} {o : Outcome} (q : looked_of r ≡ o) where
+  pub looked-entry : {x : PooledTx} → r ≡ Ok (Some x) → spender_text (row_of (id_of x.id) x.weight x.base) ≡ query_text o
   unfolding looked_of query_text
   looked-entry p = rw (← q, p)
 
-  pub looked-none : r ≡ entry-outcome.NoEntry → w_none ≡ query_text o
+  pub looked-none : r ≡ Ok None → w_none ≡ query_text o
   unfolding looked_of query_text
   looked-none p = rw (← q, p)
 
-  pub looked-not : {n : ℕ} → r ≡ entry-outcome.NotLooked n → refused_text n ≡ query_text o
+  pub looked-not : {f : Refusal} → r ≡ Err f → refused_text (refusal_number f) ≡ query_text o
   unfolding looked_of query_text
   looked-not p = rw (← q, p)
 
@@ -85,24 +82,24 @@ module _ (o : ProcessingOutcome) (x : ℕ) (ks : List ℕ) where
   unfolding processed_of tx_text
   told-needed p = rw p
 
-  pub told-declined : {n : ℕ} → o ≡ Declined n → refused_text n ≡ tx_text (processed_of o) x ks
+  pub told-declined : {f : Refusal} → o ≡ Declined f → refused_text (refusal_number f) ≡ tx_text (processed_of o) x ks
   unfolding processed_of tx_text
   told-declined p = rw p
 
 -- ---- lists that go through the buffer of the queries
 
 -- the outcome says how long the list is
-pub list_count : {r : ListOutcome} {o : Outcome} {n : ℕ} → listed_of r ≡ o → r ≡ Listed n → n ≡ written_of o
+pub list_count : {r : Result ℕ Refusal} {o : Outcome} {n : ℕ} → listed_of r ≡ o → r ≡ Ok n → n ≡ written_of o
 unfolding listed_of written_of
 list_count q p = rw (← q, p)
 
 -- records as their table reads them from the buffer m and f prints them
-pub list-text : {A : Type 0} {r : ListOutcome} {o : Outcome} {xs : List A} {n : ℕ} (of : List ℕ → ℕ → List A) (f : List A → List ℕ) (m : List ℕ) → listed_of r ≡ o → r ≡ Listed n → n ≡ length xs → of m (length xs) ≡ xs
+pub list-text : {A : Type 0} {r : Result ℕ Refusal} {o : Outcome} {xs : List A} {n : ℕ} (of : List ℕ → ℕ → List A) (f : List A → List ℕ) (m : List ℕ) → listed_of r ≡ o → r ≡ Ok n → n ≡ length xs → of m (length xs) ≡ xs
     → f (of m n) ≡ or_refused (f xs) o
 unfolding listed_of or_refused
 list-text of f m q p c y = ap f (ap (of m) c ∙ y) ∙ rw (← q, p)
 
-pub list-refused : {r : ListOutcome} {o : Outcome} {n : ℕ} (t : List ℕ) → listed_of r ≡ o → r ≡ NotListed n → refused_text n ≡ or_refused t o
+pub list-refused : {r : Result ℕ Refusal} {o : Outcome} {f : Refusal} (t : List ℕ) → listed_of r ≡ o → r ≡ Err f → refused_text (refusal_number f) ≡ or_refused t o
 unfolding listed_of or_refused
 list-refused t q p = rw (← q, p)
 
@@ -124,15 +121,15 @@ top-cases e st words limit =
     (map brief (take limit (entries_of e st.counts.pooled))) refl
     (length-map (take limit (entries_of e st.counts.pooled)) brief ∙ length-take limit (entries_of e st.counts.pooled) ∙ ap (min limit) (entries.len e st.counts.pooled))
 
-module _ {l m : List ℕ} {r : ListOutcome} {n : ℕ} (e : List ℕ) (st : Mempool) (limit : ℕ) where
-  pub listed-rows : r ≡ Listed n → Topped l m r (top_of e st (length l) limit) → (n ≤ length l / 6) × (pooled_text (rows_of m n) ≡ listing_text (top_of e st (length l) limit))
+module _ {l m : List ℕ} {r : Result ℕ Refusal} (e : List ℕ) (st : Mempool) (limit : ℕ) where
+  pub listed-rows : {n : ℕ} → r ≡ Ok n → Topped l m r (top_of e st (length l) limit) → (n ≤ length l / 6) × (pooled_text (rows_of m n) ≡ listing_text (top_of e st (length l) limit))
   unfolding listing_text
-  listed-rows q p =
+  listed-rows {n} q p =
       let h = top-cases e st (length l) limit in
       let c : n ≡ length (top_of e st (length l) limit).rows = list_count p.outcome q ∙ h.0 in
       (rw c h.1, list-text rows_of pooled_text m p.outcome q c p.answer.rows)
 
-  pub listed-not : r ≡ NotListed n → Topped l m r (top_of e st (length l) limit) → refused_text n ≡ listing_text (top_of e st (length l) limit)
+  pub listed-not : {f : Refusal} → r ≡ Err f → Topped l m r (top_of e st (length l) limit) → refused_text (refusal_number f) ≡ listing_text (top_of e st (length l) limit)
   unfolding listing_text
   listed-not q p = list-refused _ p.outcome q
 
@@ -172,35 +169,35 @@ histogram-cases e st words time size longest =
     (binned size longest time (entries_of e st.counts.pooled) (replicate (size + 1) no_bin)) refl
     (length-binned size longest time (entries_of e st.counts.pooled) (replicate (size + 1) no_bin) ∙ length-replicate (size + 1) no_bin)
 
-module _ {l m : List ℕ} {r : ListOutcome} {n : ℕ} (e : List ℕ) (st : Mempool) (time size longest : ℕ) where
-  pub drawn-bins : r ≡ Listed n → Drawn l m r (histogram_of e st (length l) time size longest)
+module _ {l m : List ℕ} {r : Result ℕ Refusal} (e : List ℕ) (st : Mempool) (time size longest : ℕ) where
+  pub drawn-bins : {n : ℕ} → r ≡ Ok n → Drawn l m r (histogram_of e st (length l) time size longest)
       → (n ≤ length l / 2) × (bins_text (pairs_of m n) ≡ histogram_text (histogram_of e st (length l) time size longest))
   unfolding histogram_text
-  drawn-bins q p =
+  drawn-bins {n} q p =
       let h = histogram-cases e st (length l) time size longest in
       let c : n ≡ length (histogram_of e st (length l) time size longest).bins = list_count p.outcome q ∙ h.0 in
       (rw c h.1, ap bins_text (sym (bins-pairs m n)) ∙ list-text bins_of (λ bs. bins_text (map pair_of bs)) m p.outcome q c p.answer.bins)
 
-  pub drawn-not : r ≡ NotListed n → Drawn l m r (histogram_of e st (length l) time size longest) → refused_text n ≡ histogram_text (histogram_of e st (length l) time size longest)
+  pub drawn-not : {f : Refusal} → r ≡ Err f → Drawn l m r (histogram_of e st (length l) time size longest) → refused_text (refusal_number f) ≡ histogram_text (histogram_of e st (length l) time size longest)
   unfolding histogram_text
   drawn-not q p = list-refused _ p.outcome q
 
 -- ---- forms
 
-pub config-is : (p : PoolForm) (s : FeeStrategy) → s ≡ strategy_of p.byte
-    → record { capacity = p.capacity; min_fee = p.min_fee; fee_strategy = s; cleanup_interval = p.interval; rebroadcast_count = p.rebroadcast; invalidation_ttl = p.ttl; invalidation_capacity = p.cache; cost_per_block = p.block_limit; cost_per_peer_per_block = p.peer_limit } ≡ config_of p
+pub config-is : (p : PoolForm)
+    → record { capacity = p.capacity; min_fee = p.min_fee; fee_strategy = p.strategy; cleanup_interval = p.interval; rebroadcast_count = p.rebroadcast; invalidation_ttl = p.ttl; invalidation_capacity = p.cache; cost_per_block = p.block_limit; cost_per_peer_per_block = p.peer_limit } ≡ config_of p
 unfolding config_of
-config-is p s e = rw e
+config-is p = refl
 
-pub submission-is : (t : TxForm) (s : Source) (v : Verdict) → s ≡ source_of t.peer → v ≡ verdict_of t.verdict
-    → record { time = t.time; id = t.id; size = t.size; preheader = t.preheader; source = s; verdict = v } ≡ submission_of t
+pub submission-is : (t : TxForm) (s : Source) → s ≡ source_of t.peer
+    → record { time = t.time; id = t.id; size = t.size; preheader = t.preheader; source = s; verdict = t.verdict } ≡ submission_of t
 unfolding submission_of
-submission-is t s v p q = rw (p, q)
+submission-is t s p = rw p
 
-pub unconfirmed-is : (g : ReturnForm) (v : ValidationCost) (s : Source) → v ≡ measured_of g.measured → s ≡ source_of g.peer
-    → record { id = g.id; fee = g.fee; size = g.size; cost = g.cost; validation_cost = v; created = g.created; last_checked = g.checked; source = s } ≡ unconfirmed_of g
+pub unconfirmed-is : (g : ReturnForm) (s : Source) → s ≡ source_of g.peer
+    → record { id = g.id; fee = g.fee; size = g.size; cost = g.cost; validation_cost = g.measured; created = g.created; last_checked = g.checked; source = s } ≡ unconfirmed_of g
 unfolding unconfirmed_of
-unconfirmed-is g v s p q = rw (p, q)
+unconfirmed-is g s q = rw q
 
 pub nothing_is : (m : Mempool) (s : FeeStats) → m ≡ empty no_config → s ≡ fresh 0 → record { ready = false; mempool = m; stats = s; written = 0 } ≡ nothing
 nothing_is m s p q = rw (p, q)

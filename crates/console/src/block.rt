@@ -1,6 +1,6 @@
 // `block`: the transactions that a block confirmed.
 ghost use Rattle.std.specs.Prelude.{◌≡◌, ℕ, ◌/◌, ◌≤◌, List, length};
-ghost use Rattle.pool_types.specs.Outcomes.{block_of};
+ghost use Rattle.pool_types.specs.Outcomes.{listed_of};
 ghost use Rattle.boxes.specs.Flat.{count_of, ids_to};
 ghost use Rattle.forms.specs.Nums.{Prints};
 ghost use Rattle.console.specs.declared.calls.Change.TheVariants.{Block};
@@ -12,30 +12,27 @@ use crate::answer::refused;
 use crate::{Kept, Told};
 use blocks::apply_block_by_value;
 use lines::read::BlockForm;
-use pool_types::{BlockOutcome, Mempool};
+use pool_types::{Mempool, Refusal};
 use replies::with_ids;
 use stats::FeeStats;
-use words::sums::smaller;
 
 // The ids that a block says it wrote.
-fn removed_of(outcome: BlockOutcome) -> usize
-    ensures { result ≡ written_of (block_of outcome) }
+#[tactic(auto, unfolding(pool_types::specs::Outcomes::written_of, pool_types::specs::Outcomes::listed_of))]
+fn removed_of(outcome: Result<usize, Refusal>) -> usize
+    ensures { result ≡ written_of (listed_of outcome) }
 {
-    match outcome {
-        BlockOutcome::Removed(n) => n,
-        BlockOutcome::NotApplied(_) => 0,
-    }
+    outcome.unwrap_or(0)
 }
 
 // The answer to a block that wrote `n` ids.
-fn tell_removed(out: &mut [u8], answer: &[u64], n: usize, outcome: BlockOutcome) -> usize
+fn tell_removed(out: &mut [u8], answer: &[u64], n: usize, outcome: Result<usize, Refusal>) -> usize
     requires n_bound { (n ≤ count_of 4 answer.now) × (length answer.now ≤ 1024) }
     requires in_bounds { 32768 ≤ length out.old }
-    ensures { Prints (removed_text (block_of outcome) (ids_to 4 answer.now n)) 0 out.old out.new result }
+    ensures { Prints (removed_text (listed_of outcome) (ids_to 4 answer.now n)) 0 out.old out.new result }
 {
     match outcome {
-        BlockOutcome::Removed(_) => with_ids(out, b"(removed", answer, n),
-        BlockOutcome::NotApplied(k) => refused(out, k),
+        Ok(_) => with_ids(out, b"(removed", answer, n),
+        Err(refusal) => refused(out, refusal),
     }
 }
 
@@ -44,13 +41,13 @@ fn told(
     answer: &[u64],
     mempool: Mempool,
     stats: FeeStats,
-    outcome: BlockOutcome,
+    outcome: Result<usize, Refusal>,
     out: &mut [u8],
 ) -> Told
     requires { (length answer.now ≤ 1024) × (32768 ≤ length out.old) }
-    ensures { ToldOf answer.now mempool stats (block_of outcome) (removed_text (block_of outcome)) out.old out.new result }
+    ensures { ToldOf answer.now mempool stats (listed_of outcome) (removed_text (listed_of outcome)) out.old out.new result }
 {
-    let written = smaller(removed_of(outcome), answer.len() / 4);
+    let written = removed_of(outcome).min(answer.len() / 4);
     let len = tell_removed(out, answer, written, outcome);
     Told {
         kept: Kept {

@@ -2,8 +2,8 @@
 ghost use Rattle.std.specs.Prelude.{◌≡◌};
 ghost use Rattle.console.specs.Calls.{call_of, lacks_pool, words_of};
 
-use lines::fields::Verdict;
 use lines::read::{BlockForm, Form, PoolForm, ReturnForm, TxForm};
+use pool_types::Verdict;
 use words::ids::Id;
 
 // What changes nothing. `charges` and `written` are no calls of the pool: they read what poolrun holds.

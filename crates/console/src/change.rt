@@ -11,7 +11,6 @@ use crate::pass::{on_answer, on_next, on_open};
 use crate::returning::on_return;
 use crate::submit::on_tx;
 use crate::{Kept, Told};
-use words::sums::smaller;
 
 // `one` and `two` are the form's lists.
 fn make(
@@ -61,8 +60,8 @@ pub fn alter(
         (altered entries.old boxes.old cache.old peers.old answer.old kept (take (words_of change).one one.now) (take (words_of change).two two.now) change) }
 {
     let words = words_of(change);
-    let n = smaller(words.one, one.len());
-    let m = smaller(words.two, two.len());
+    let n = words.one.min(one.len());
+    let m = words.two.min(two.len());
     make(
         entries,
         boxes,

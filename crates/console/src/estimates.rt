@@ -7,18 +7,18 @@ ghost use Rattle.console.specs.Console.{w_fee, w_wait, number_text, histogram_te
 
 use crate::answer::refused;
 use fees::{expected_wait_ms_at, pool_histogram_at, recommended_fee};
-use pool_types::{ListOutcome, Mempool, NumberOutcome};
+use pool_types::{Mempool, Refusal};
 use replies::with_number;
 use stats::FeeStats;
 
 // `(fee N)` and the like.
-fn tell_number(out: &mut [u8], head: &[u8], outcome: NumberOutcome) -> usize
+fn tell_number(out: &mut [u8], head: &[u8], outcome: Result<u64, Refusal>) -> usize
     requires { (length head.now ≤ 16) × (32768 ≤ length out.old) }
     ensures { Prints (number_text head.now (number_of outcome)) 0 out.old out.new result }
 {
     match outcome {
-        NumberOutcome::Number(n) => with_number(out, head, n),
-        NumberOutcome::NoNumber(n) => refused(out, n),
+        Ok(n) => with_number(out, head, n),
+        Err(refusal) => refused(out, refusal),
     }
 }
 
@@ -60,7 +60,7 @@ pub fn on_histogram(
 {
     let drawn = pool_histogram_at(entries, mempool, listing, time, bins, longest);
     match drawn {
-        ListOutcome::Listed(n) => replies::bins(out, &listing[..], n),
-        ListOutcome::NotListed(n) => refused(out, n),
+        Ok(n) => replies::bins(out, &listing[..], n),
+        Err(refusal) => refused(out, refusal),
     }
 }

@@ -1,7 +1,7 @@
 // `invalidate`: a transaction found invalid.
 ghost use Rattle.std.specs.Prelude.{ℕ, ◌≤◌, List, length};
 ghost use Rattle.words.specs.Ids.{id_of};
-ghost use Rattle.pool_types.specs.Outcomes.{invalidated_of};
+ghost use Rattle.pool_types.specs.Outcomes.{done_of};
 ghost use Rattle.forms.specs.Nums.{Prints};
 ghost use Rattle.replies.specs.Replies.{named};
 ghost use Rattle.console.specs.declared.calls.Change.TheVariants.{Invalidate};
@@ -10,18 +10,18 @@ ghost use Rattle.console.specs.After.{Holds, After};
 
 use crate::answer::refused;
 use crate::{Kept, Told};
-use pool_types::InvalidateOutcome;
+use pool_types::Refusal;
 use replies::with_id;
 use returns::invalidate;
 use words::ids::Id;
 
-fn tell_invalidated(out: &mut [u8], id: Id, outcome: InvalidateOutcome) -> usize
+fn tell_invalidated(out: &mut [u8], id: Id, outcome: Result<(), Refusal>) -> usize
     requires { 32768 ≤ length out.old }
-    ensures { Prints (or_refused (named w_invalidated (id_of id)) (invalidated_of outcome)) 0 out.old out.new result }
+    ensures { Prints (or_refused (named w_invalidated (id_of id)) (done_of outcome)) 0 out.old out.new result }
 {
     match outcome {
-        InvalidateOutcome::Invalidated => with_id(out, b"(invalidated ", id),
-        InvalidateOutcome::NotInvalidated(n) => refused(out, n),
+        Ok(()) => with_id(out, b"(invalidated ", id),
+        Err(refusal) => refused(out, refusal),
     }
 }
 

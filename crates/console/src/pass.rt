@@ -1,51 +1,53 @@
 // `open`, `next` and `answer`: a pass over the pool.
 ghost use Rattle.std.specs.Prelude.{ℕ, ◌≤◌, List, length};
-ghost use Rattle.pool_types.specs.Outcomes.{opened_of, next_of, answered_of};
+ghost use Rattle.pool_types.specs.Outcomes.{done_of, next_of, answered_of};
 ghost use Rattle.forms.specs.Nums.{Prints};
 ghost use Rattle.console.specs.declared.calls.Change.TheVariants.{Open, Next, Answer};
 ghost use Rattle.console.specs.Console.{pass_text, altered};
 ghost use Rattle.console.specs.After.{Holds, After};
 
 use crate::answer::refused;
-use crate::submit::verdict_of;
 use crate::{Kept, Told};
 use cleanup::{answer, next, open};
-use lines::fields::Verdict;
-use pool_types::{AnswerOutcome, NextOutcome, OpenOutcome};
+use pool_types::{AnswerOutcome, NextOutcome, Refusal, Verdict};
 use replies::pieces::text;
 use replies::{with_id, with_number};
 
-fn tell_opened(out: &mut [u8], outcome: OpenOutcome) -> usize
+fn tell_opened(out: &mut [u8], outcome: Result<(), Refusal>) -> usize
     requires { 32768 ≤ length out.old }
-    ensures { Prints (pass_text (opened_of outcome)) 0 out.old out.new result }
+    ensures { Prints (pass_text (done_of outcome)) 0 out.old out.new result }
 {
     match outcome {
-        OpenOutcome::Opened => text(out, 0, b"(opened)"),
-        OpenOutcome::NotOpened(n) => refused(out, n),
+        Ok(()) => text(out, 0, b"(opened)"),
+        Err(refusal) => refused(out, refusal),
     }
 }
 
-fn tell_offered(out: &mut [u8], outcome: NextOutcome) -> usize
+fn tell_offered(out: &mut [u8], outcome: Result<NextOutcome, Refusal>) -> usize
     requires { 32768 ≤ length out.old }
     ensures { Prints (pass_text (next_of outcome)) 0 out.old out.new result }
 {
     match outcome {
-        NextOutcome::Candidate(id) => with_id(out, b"(candidate ", id),
-        NextOutcome::Ended(sum) => with_number(out, b"(ended ", sum),
-        NextOutcome::NoPass(n) => refused(out, n),
+        Ok(next) => match next {
+            NextOutcome::Candidate(id) => with_id(out, b"(candidate ", id),
+            NextOutcome::Ended(sum) => with_number(out, b"(ended ", sum),
+        },
+        Err(refusal) => refused(out, refusal),
     }
 }
 
-fn tell_answered(out: &mut [u8], outcome: AnswerOutcome) -> usize
+fn tell_answered(out: &mut [u8], outcome: Result<AnswerOutcome, Refusal>) -> usize
     requires { 32768 ≤ length out.old }
     ensures { Prints (pass_text (answered_of outcome)) 0 out.old out.new result }
 {
     match outcome {
-        AnswerOutcome::InputMissing(id) => with_id(out, b"(missing ", id),
-        AnswerOutcome::AnswerNeeded => text(out, 0, b"(verdict needed)"),
-        AnswerOutcome::FoundInvalid(id) => with_id(out, b"(invalid ", id),
-        AnswerOutcome::FoundValid(id) => with_id(out, b"(valid ", id),
-        AnswerOutcome::NotAnswered(n) => refused(out, n),
+        Ok(answer) => match answer {
+            AnswerOutcome::InputMissing(id) => with_id(out, b"(missing ", id),
+            AnswerOutcome::AnswerNeeded => text(out, 0, b"(verdict needed)"),
+            AnswerOutcome::FoundInvalid(id) => with_id(out, b"(invalid ", id),
+            AnswerOutcome::FoundValid(id) => with_id(out, b"(valid ", id),
+        },
+        Err(refusal) => refused(out, refusal),
     }
 }
 
@@ -110,7 +112,7 @@ pub fn on_answer(
 {
     let mempool = kept.mempool;
     let stats = kept.stats;
-    let answered = answer(entries, boxes, cache, mempool, flags, verdict_of(verdict));
+    let answered = answer(entries, boxes, cache, mempool, flags, verdict);
     let after = answered.mempool;
     let outcome = answered.outcome;
     let len = tell_answered(out, outcome);

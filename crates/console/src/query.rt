@@ -20,11 +20,10 @@ use crate::estimates::{on_fee, on_histogram, on_wait};
 use cleanup::rebroadcast::select_for_rebroadcast;
 use mempool::listing::top;
 use mempool::queries::{contains, len, spending_tx};
-use pool_types::{EntryOutcome, ListOutcome, Mempool, TestOutcome};
+use pool_types::Mempool;
 use replies::pieces::text;
 use replies::{charges, pooled, spender, with_ids, with_number};
 use words::ids::Id;
-use words::sums::smaller;
 
 pub fn on_top(
     entries: &[u64],
@@ -38,8 +37,8 @@ pub fn on_top(
 {
     let listed = top(entries, mempool, listing, limit);
     match listed {
-        ListOutcome::Listed(n) => pooled(out, &listing[..], n),
-        ListOutcome::NotListed(n) => refused(out, n),
+        Ok(n) => pooled(out, &listing[..], n),
+        Err(refusal) => refused(out, refusal),
     }
 }
 
@@ -57,9 +56,14 @@ pub fn on_contains(
 {
     let tested = contains(entries, cache, mempool, time, id);
     match tested {
-        TestOutcome::Yes => text(out, 0, b"(yes)"),
-        TestOutcome::No => text(out, 0, b"(no)"),
-        TestOutcome::NotTested(n) => refused(out, n),
+        Ok(said) => {
+            if said {
+                text(out, 0, b"(yes)")
+            } else {
+                text(out, 0, b"(no)")
+            }
+        }
+        Err(refusal) => refused(out, refusal),
     }
 }
 
@@ -76,9 +80,11 @@ pub fn on_spending(
 {
     let looked = spending_tx(entries, boxes, mempool, key);
     match looked {
-        EntryOutcome::Entry(id, weight, base) => spender(out, id, weight, base),
-        EntryOutcome::NoEntry => text(out, 0, b"(none)"),
-        EntryOutcome::NotLooked(n) => refused(out, n),
+        Ok(looked) => match looked {
+            Some(tx) => spender(out, tx.id, tx.weight, tx.base),
+            None => text(out, 0, b"(none)"),
+        },
+        Err(refusal) => refused(out, refusal),
     }
 }
 
@@ -96,11 +102,11 @@ pub fn on_rebroadcast(
     requires listing_len_bound { (length listing.old ≤ 1024) × (32768 ≤ length out.old) }
     ensures { (k p : List ℕ) → Prints (sent_text (rebroadcast mempool (world_of entries.now boxes.now k (records p) mempool) (length listing.old / 4) (take n one.now))) 0 out.old out.new result }
 {
-    let m = smaller(n, one.len());
+    let m = n.min(one.len());
     let sent = select_for_rebroadcast(entries, boxes, listing, mempool, &one[..m]);
     match sent {
-        ListOutcome::Listed(k) => with_ids(out, b"(ids", &listing[..], k),
-        ListOutcome::NotListed(k) => refused(out, k),
+        Ok(k) => with_ids(out, b"(ids", &listing[..], k),
+        Err(refusal) => refused(out, refusal),
     }
 }
 

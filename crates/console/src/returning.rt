@@ -1,58 +1,46 @@
 // `return`: a transaction that a block rolled back gives back.
 ghost use Rattle.std.specs.Prelude.{◌≡◌, ℕ, ◌≤◌, List, length};
 ghost use Rattle.words.specs.Ids.{id_of};
-ghost use Rattle.pool_types.specs.Outcomes.{returned_of};
+ghost use Rattle.pool_types.specs.Outcomes.{done_of};
 ghost use Rattle.forms.specs.Nums.{Prints};
 ghost use Rattle.replies.specs.Replies.{named};
 ghost use Rattle.console.specs.declared.calls.Change.TheVariants.{Return};
-ghost use Rattle.console.specs.Console.{w_returned, or_refused, measured_of, unconfirmed_of, altered};
+ghost use Rattle.console.specs.Console.{w_returned, or_refused, unconfirmed_of, altered};
 ghost use Rattle.console.specs.After.{Holds, After};
 
 use crate::answer::refused;
 use crate::submit::source_of;
 use crate::{Kept, Told};
-use entries::fields::ValidationCost;
-use lines::fields::Optional;
 use lines::read::ReturnForm;
-use pool_types::ReturnOutcome;
+use pool_types::Refusal;
 use replies::with_id;
 use returns::{UnconfirmedTx, return_to_pool};
 use words::ids::Id;
-
-fn measured_of(measured: Optional) -> ValidationCost
-    ensures { result ≡ measured_of measured }
-{
-    match measured {
-        Optional::Some(c) => ValidationCost::Measured(c),
-        Optional::Absent => ValidationCost::Unmeasured,
-    }
-}
 
 fn unconfirmed_of(g: ReturnForm) -> UnconfirmedTx
     ensures { result ≡ unconfirmed_of g }
 {
     let id = g.id;
-    let measured = g.measured;
     let peer = g.peer;
     UnconfirmedTx {
         id,
         fee: g.fee,
         size: g.size,
         cost: g.cost,
-        validation_cost: measured_of(measured),
+        validation_cost: g.measured,
         created: g.created,
         last_checked: g.checked,
         source: source_of(peer),
     }
 }
 
-fn tell_returned(out: &mut [u8], id: Id, outcome: ReturnOutcome) -> usize
+fn tell_returned(out: &mut [u8], id: Id, outcome: Result<(), Refusal>) -> usize
     requires { 32768 ≤ length out.old }
-    ensures { Prints (or_refused (named w_returned (id_of id)) (returned_of outcome)) 0 out.old out.new result }
+    ensures { Prints (or_refused (named w_returned (id_of id)) (done_of outcome)) 0 out.old out.new result }
 {
     match outcome {
-        ReturnOutcome::Returned => with_id(out, b"(returned ", id),
-        ReturnOutcome::NotReturned(n) => refused(out, n),
+        Ok(()) => with_id(out, b"(returned ", id),
+        Err(refusal) => refused(out, refusal),
     }
 }
 

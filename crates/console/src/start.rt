@@ -4,26 +4,17 @@ ghost use Rattle.entries.specs.Layout.{entries_room};
 ghost use Rattle.boxes.specs.Layout.{boxes_room};
 ghost use Rattle.expiring_cache.specs.Layout.{cache_room};
 ghost use Rattle.mempool.specs.Start.{sizes, empty, started};
-ghost use Rattle.console.specs.Console.{strategy_of, config_of, no_config, nothing, started_line};
+ghost use Rattle.console.specs.Console.{config_of, no_config, nothing, started_line};
 ghost use Rattle.console.specs.After.{Holds, After};
 
 use crate::answer::refused;
 use crate::{Kept, Told};
 use lines::read::PoolForm;
 use mempool::start;
-use pool_types::{Counts, FeeStrategy, Mempool, MempoolConfig, Pass, StartOutcome, Sums};
+use pool_types::{Counts, FeeStrategy, Mempool, MempoolConfig, Pass, Sums};
 use replies::pieces::text;
 use stats::FeeStats;
 use words::ids::Id;
-
-fn strategy_of(byte: u64) -> FeeStrategy
-    ensures { result ≡ strategy_of byte }
-{
-    if byte == 0 {
-        return FeeStrategy::FeePerCycle;
-    }
-    FeeStrategy::FeePerByte
-}
 
 fn config_of(p: PoolForm) -> MempoolConfig
     ensures { result ≡ config_of p }
@@ -31,7 +22,7 @@ fn config_of(p: PoolForm) -> MempoolConfig
     MempoolConfig {
         capacity: p.capacity as usize,
         min_fee: p.min_fee,
-        fee_strategy: strategy_of(p.byte),
+        fee_strategy: p.strategy,
         cleanup_interval: p.interval,
         rebroadcast_count: p.rebroadcast as usize,
         invalidation_ttl: p.ttl,
@@ -59,7 +50,7 @@ pub fn on_pool(
 {
     let started = start(entries, boxes, cache, peers.len() / 2, config_of(p));
     match started {
-        StartOutcome::Ready(mempool) => Told {
+        Ok(mempool) => Told {
             kept: Kept {
                 ready: true,
                 mempool,
@@ -68,9 +59,9 @@ pub fn on_pool(
             },
             len: text(out, 0, b"(ready)"),
         },
-        StartOutcome::NotStarted(n) => Told {
+        Err(refusal) => Told {
             kept: Kept { written: 0, ..kept },
-            len: refused(out, n),
+            len: refused(out, refusal),
         },
     }
 }

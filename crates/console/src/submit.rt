@@ -5,38 +5,26 @@ ghost use Rattle.pool_types.specs.Outcomes.{processed_of};
 ghost use Rattle.boxes.specs.Flat.{count_of, ids_to};
 ghost use Rattle.forms.specs.Nums.{Prints};
 ghost use Rattle.console.specs.declared.calls.Change.TheVariants.{Submit};
-ghost use Rattle.console.specs.Console.{source_of, verdict_of, submission_of, tx_text, altered};
+ghost use Rattle.console.specs.Console.{source_of, submission_of, tx_text, altered};
 ghost use Rattle.pool_types.specs.Outcomes.{written_of};
 ghost use Rattle.console.specs.After.{Holds, After, ToldOf};
 
 use crate::answer::refused;
 use crate::{Kept, Told};
-use lines::fields::Optional;
 use lines::read::TxForm;
-use pool_types::{ProcessingOutcome, Source, Submission, Verdict};
+use pool_types::{ProcessingOutcome, Refusal, Source, Submission};
 use process::{Processed, process_words};
 use replies::pieces::text;
 use replies::{replaced, with_id};
 use stats::FeeStats;
 use words::ids::Id;
-use words::sums::smaller;
 
-pub fn source_of(peer: Optional) -> Source
+pub fn source_of(peer: Option<u64>) -> Source
     ensures { result ≡ source_of peer }
 {
     match peer {
-        Optional::Some(p) => Source::Peer(p),
-        Optional::Absent => Source::Local,
-    }
-}
-
-pub fn verdict_of(v: lines::fields::Verdict) -> Verdict
-    ensures { result ≡ verdict_of v }
-{
-    match v {
-        lines::fields::Verdict::Valid(c) => Verdict::Valid(c),
-        lines::fields::Verdict::Invalid => Verdict::Invalid,
-        lines::fields::Verdict::NoVerdict => Verdict::Absent,
+        Some(p) => Source::Peer(p),
+        None => Source::Local,
     }
 }
 
@@ -52,7 +40,7 @@ fn submission_of(t: TxForm) -> Submission
         size: t.size,
         preheader: t.preheader,
         source: source_of(peer),
-        verdict: verdict_of(verdict),
+        verdict,
     }
 }
 
@@ -84,9 +72,9 @@ fn tell_processed(
     match outcome {
         ProcessingOutcome::Accepted => with_id(out, b"(accepted ", id),
         ProcessingOutcome::Replaced(_) => replaced(out, id, answer, n),
-        ProcessingOutcome::DoubleSpendLoser(_) => refused(out, 29),
+        ProcessingOutcome::DoubleSpendLoser(_) => refused(out, Refusal::DoubleSpend),
         ProcessingOutcome::VerdictNeeded => text(out, 0, b"(verdict needed)"),
-        ProcessingOutcome::Declined(k) => refused(out, k),
+        ProcessingOutcome::Declined(refusal) => refused(out, refusal),
     }
 }
 
@@ -97,7 +85,7 @@ fn told(answer: &[u64], stats: FeeStats, done: Processed, id: Id, out: &mut [u8]
 {
     let outcome = done.outcome;
     let mempool = done.mempool;
-    let written = smaller(written_of(outcome), answer.len() / 4);
+    let written = written_of(outcome).min(answer.len() / 4);
     let len = tell_processed(out, id, answer, written, outcome);
     Told {
         kept: Kept {

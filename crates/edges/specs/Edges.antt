@@ -1,5 +1,6 @@
 -- Document 01, "Each edge (* proved)": the starred cases as one table, and one theorem that computes over it. A row has what the definitions give
 -- and what document 01 says; a yes is 1, a no is 0.
+use Rattle.std.specs.Prelude.{None}
 use Rattle.std.specs.Prelude.{ℕ, ◌+◌, ◌*◌, Bool, true, false, ◌&&◌, List, [], ◌∷◌, get_or, replicate, eqb}
 use Rattle.words.specs.Sums.{cap}
 use Rattle.pool_types.specs.declared.FeeStrategy.TheVariants.{FeePerByte, FeePerCycle}
@@ -12,7 +13,6 @@ use Rattle.expiring_cache.specs.Cache.{held}
 use Rattle.stats.specs.declared.FeeStats.{FeeStats}
 use Rattle.stats.specs.Stats.{fresh, confirmed, wait_for}
 use Rattle.entries.specs.Entries.{Entry}
-use Rattle.entries.specs.declared.fields.ValidationCost.TheVariants.{Unmeasured}
 use Rattle.checks.specs.Checks.{list_refusal}
 use Rattle.admit.specs.Admit.{loses}
 use Rattle.fees.specs.Fees.{bin_of}
@@ -52,7 +52,7 @@ four = record { counts = []; totals = []; window_start = 0; taken = 4; snap_time
 
 -- a pooled transaction of this id and weight
 abbrev pooled : ℕ → ℕ → Entry
-pooled id weight = record { id = id; weight = weight; base = weight; size = 0; cost = 0; validation_cost = Unmeasured; created = 0; last_checked = 0; height_key = 0; inputs = 0 }
+pooled id weight = record { id = id; weight = weight; base = weight; size = 0; cost = 0; validation_cost = None; created = 0; last_checked = 0; height_key = 0; inputs = 0 }
 
 -- whether a newcomer of this base loses to its conflicts, transactions 1 and 2 of weights 10 and 15
 abbrev loses_to : ℕ → ℕ

@@ -1,20 +1,23 @@
 -- The words of the table. There are S slots, (words − 2) / 18; a slot has seventeen words: the fourteen of an entry, whether the slot is in use (1),
 -- its link, and one that belongs to the bucket of the slot's number, its head. Behind the slots stands a word for each rank, which names a slot; then how many
 -- slots are known, and the key of the buckets. Any words are a table in some way: `entries_of`.
-use Rattle.std.specs.Prelude.{ℕ, ◌+◌, ◌-◌, ◌*◌, ◌/◌, ◌^◌, ◌≤◌, ◌<◌, min, max, ◌≡◌, refl, ◌≢◌, Bool, true, false, List, [], ◌∷◌, length, get_or, set, replicate, eqb, ltb}
+use Rattle.std.specs.Prelude.{None, Option, Some, is_some}
+use Rattle.std.specs.Option.{unwrap_or}
+use Rattle.std.specs.Bool.{then_some}
+use Rattle.std.specs.Int.{from_bool}
+use Rattle.std.specs.Prelude.{ℕ, ◌+◌, ◌-◌, ◌*◌, ◌/◌, ◌^◌, ◌≤◌, ◌<◌, min, max, ◌≡◌, refl, ◌≢◌, Bool, true, false, not, List, [], ◌∷◌, length, slice_range, get_or, set, replicate, eqb, ltb}
 use Rattle.std.proofs.Common.{sym, ap, ◌∙◌, add-zero, arith, eqb-true, eq-eqb, ne_eqb, lt-ltb, le-ltb, ltb-true}
 use Rattle.std.proofs.Math.Decide.{dec_lt}
 use Rattle.std.proofs.Math.ListN.{length-set}
 use Rattle.std.proofs.Math.Seq.{get_or-set_other, get_or-set_same}
-use Rattle.std.proofs.lemmas.Bool.{eqb-false}
 use Rattle.words.specs.Lists.{pick}
 use Rattle.words.specs.Rows.{tab, length-tab, get_or-tab, take-tab, tab-ext}
 use Rattle.words.specs.Tables.{Table}
 use Rattle.words.specs.Ids.{num, id_of, id_at}
 use Rattle.entries.specs.Entries.{Entry}
 use Rattle.entries.specs.declared.fields.PoolEntry.{PoolEntry}
-use Rattle.entries.specs.declared.fields.ValidationCost.{ValidationCost}
-use Rattle.entries.specs.declared.fields.ValidationCost.TheVariants.{Unmeasured, Measured}
+use Rattle.entries.specs.declared.fields.Field.{Field}
+use Rattle.entries.specs.declared.fields.Field.TheVariants.{Weight, Base, Size, Cost, Created, LastChecked, HeightKey, Inputs}
 
 -- a record of the code, as an entry
 unfoldable pub entry_of : PoolEntry → Entry
@@ -33,16 +36,32 @@ entry_of e =
     }
 
 -- a validation cost of two words: a tag, 0 where nothing was measured, and a value
-abbrev pub cost_of : ℕ → ℕ → ValidationCost
-cost_of t v = pick (eqb t 0) Unmeasured (Measured v)
+abbrev pub cost_of : ℕ → ℕ → Option ℕ
+cost_of t v = pick (eqb t 0) None (Some v)
 
-abbrev pub tag_of : ValidationCost → ℕ
-tag_of Unmeasured = 0
-tag_of (Measured v) = 1
+abbrev pub tag_of : Option ℕ → ℕ
+tag_of None = 0
+tag_of (Some v) = 1
 
-abbrev pub value_of : ValidationCost → ℕ
-value_of Unmeasured = 0
-value_of (Measured v) = v
+abbrev pub value_of : Option ℕ → ℕ
+value_of None = 0
+value_of (Some v) = v
+
+-- as the code reads and writes it
+pub cost-read : (t v : ℕ) → then_some (not (eqb t 0)) v ≡ cost_of t v
+cost-read t v = go (eqb t 0)
+  where
+    go : (b : Bool) → then_some (not b) v ≡ pick b None (Some v)
+    go true = refl
+    go false = refl
+
+pub tag-written : (c : Option ℕ) → from_bool (is_some c) ≡ tag_of c
+tag-written None = refl
+tag-written (Some v) = refl
+
+pub value-written : (c : Option ℕ) → unwrap_or c 0 ≡ value_of c
+value-written None = refl
+value-written (Some v) = refl
 
 -- ---- the layout
 
@@ -82,6 +101,10 @@ put_cell l i a v = set l (i * slot_words + a) v
 unfoldable pub put_raw : List ℕ → ℕ → ℕ → List ℕ
 put_raw l r v = set l (slot_count l * slot_words + r) v
 
+-- the words of the first n ranks
+abbrev pub ranks_of : List ℕ → ℕ → List ℕ
+ranks_of l n = slice_range l (slot_count l * slot_words) (slot_count l * slot_words + n)
+
 -- word r behind the slots is one of the words
 abbrev pub Stands : List ℕ → ℕ → Type 0
 Stands l r = slot_count l * slot_words + r < length l
@@ -95,9 +118,13 @@ bucket_key l = raw_at l (slot_count l + 1)
 unfoldable pub known_of : List ℕ → ℕ → ℕ
 known_of l n = pick (eqb n 0) 0 (max n (min (raw_at l (slot_count l)) (slot_count l)))
 
--- the slot of rank r: a word that names none is taken for the first
+-- the slot that a word names: one that names none is taken for the first
+abbrev pub slot_named : List ℕ → ℕ → ℕ
+slot_named l w = pick (ltb w (slot_count l)) w 0
+
+-- the slot of rank r
 unfoldable pub slot_of : List ℕ → ℕ → ℕ
-slot_of l r = pick (ltb (raw_at l r) (slot_count l)) (raw_at l r) 0
+slot_of l r = slot_named l (raw_at l r)
 
 unfoldable pub id_in : List ℕ → ℕ → ℕ
 id_in l i = num (cell l i 0) (cell l i 1) (cell l i 2) (cell l i last_word)
@@ -141,7 +168,7 @@ entries-ext l m n e = tab-ext (entry_at m) (entry_at l) n e
 abbrev table : ℕ → ℕ → List ℕ
 table tag rank = 0 ∷ 0 ∷ 0 ∷ 7 ∷ 20 ∷ 10 ∷ 300 ∷ 500 ∷ tag ∷ 400 ∷ 3 ∷ 4 ∷ 2147483698 ∷ 2 ∷ 1 ∷ 0 ∷ 1 ∷ rank ∷ 1 ∷ 9 ∷ []
 
-fields : ((entry_at (table 1 0) 0).weight ≡ 20) × ((entry_at (table 1 0) 0).base ≡ 10) × ((entry_at (table 1 0) 0).validation_cost ≡ Measured 400) × ((entry_at (table 0 0) 0).validation_cost ≡ Unmeasured) × ((entry_at (table 0 5) 0).inputs ≡ 2) × (bucket_key (table 0 0) ≡ 9)
+fields : ((entry_at (table 1 0) 0).weight ≡ 20) × ((entry_at (table 1 0) 0).base ≡ 10) × ((entry_at (table 1 0) 0).validation_cost ≡ Some 400) × ((entry_at (table 0 0) 0).validation_cost ≡ None) × ((entry_at (table 0 5) 0).inputs ≡ 2) × (bucket_key (table 0 0) ≡ 9)
 unfolding entry_at entry_in entry_from slot_of cell raw_at bucket_key
 fields = (refl, refl, refl, refl, refl, refl)
 
@@ -171,49 +198,41 @@ pub id-read : (l : List ℕ) (i : ℕ) → id_at l (i * slot_words) ≡ id_in l 
 unfolding id_at id_in cell
 id-read l i = rw (add-zero (i * 17))
 
--- a word that is a field by itself, and that field of an entry
-abbrev pub Plain : ℕ → Type 0
-Plain j = (4 ≤ j) × (j < 14) × (j ≢ 8) × (j ≢ 9)
+-- the fields that are a word by themselves, and their places in a slot
+abbrev pub field_place : Field → ℕ
+field_place Weight = weight_word
+field_place Base = 5
+field_place Size = 6
+field_place Cost = 7
+field_place Created = 10
+field_place LastChecked = 11
+field_place HeightKey = 12
+field_place Inputs = 13
 
-abbrev pub word_of : Entry → ℕ → ℕ
-word_of e j =
-    pick (eqb j 4) e.weight
-    (pick (eqb j 5) e.base
-    (pick (eqb j 6) e.size
-    (pick (eqb j 7) e.cost
-    (pick (eqb j 10) e.created
-    (pick (eqb j 11) e.last_checked
-    (pick (eqb j 12) e.height_key e.inputs))))))
+abbrev pub word_of : Entry → Field → ℕ
+word_of e Weight = e.weight
+word_of e Base = e.base
+word_of e Size = e.size
+word_of e Cost = e.cost
+word_of e Created = e.created
+word_of e LastChecked = e.last_checked
+word_of e HeightKey = e.height_key
+word_of e Inputs = e.inputs
 
-field-word : (w : ℕ → ℕ) (j : ℕ) → Plain j → w j ≡ word_of (entry_from w) j
-unfolding entry_from
-field-word w j h =
-    at 4 h.0 (λ h. at 5 h (λ h. at 6 h (λ h. at 7 h (λ h8. at 10 (ten h8) (λ h. at 11 h (λ h. at 12 h (λ h13. ap w (last h13))))))))
+-- what a rank's slot holds
+pub at-field : (l : List ℕ) (r i p : ℕ) (f : Field) → i ≡ slot_of l r → p ≡ field_place f → cell l i p ≡ word_of (entry_at l r) f
+unfolding entry_at entry_in entry_from
+at-field l r i p f e d = rw (e, d) (go f)
   where
-    ten : 8 ≤ j → 10 ≤ j
-    ten h8 = omega (arith, h.2, h.3)
-
-    last : 13 ≤ j → j ≡ 13
-    last h13 = let u : j < 14 = h.1 in omega arith
-
-    past : (k : ℕ) → k ≤ j → j ≢ k → k < j
-    past k m n = omega (arith, n)
-
-    at : (k : ℕ) → k ≤ j → {y : ℕ} → (k < j → w j ≡ y) → w j ≡ pick (eqb j k) (w k) y
-    at k m {y} f = go (eqb j k) refl
-      where
-        go : (t : Bool) → eqb j k ≡ t → w j ≡ pick t (w k) y
-        go true e = ap w (eqb-true j k e)
-        go false e = f (past k m (eqb-false j k e))
-
-pub word_in : (l : List ℕ) (i j : ℕ) → Plain j → cell l i j ≡ word_of (entry_in l i) j
-unfolding entry_in
-word_in l i j h = field-word (cell l i) j h
-
--- the same of a rank
-pub at-word : (l : List ℕ) (r i j : ℕ) → i ≡ slot_of l r → Plain j → cell l i j ≡ word_of (entry_at l r) j
-unfolding entry_at
-at-word l r i j e h = word_in l i j h ∙ ap (λ (x : ℕ). word_of (entry_in l x) j) e
+    go : (f : Field) → cell l (slot_of l r) (field_place f) ≡ word_of (entry_at l r) f
+    go Weight = refl
+    go Base = refl
+    go Size = refl
+    go Cost = refl
+    go Created = refl
+    go LastChecked = refl
+    go HeightKey = refl
+    go Inputs = refl
 
 pub at-id : (l : List ℕ) (r i : ℕ) → i ≡ slot_of l r → id_in l i ≡ (entry_at l r).id
 unfolding entry_at
@@ -286,13 +305,9 @@ unfolding known_of
 known-none l n e = rw (eq-eqb n 0 e)
 
 module _ (l : List ℕ) (n w : ℕ) (pos : n ≢ 0) (e : w ≡ raw_at l (slot_count l)) (h : n ≤ slot_count l) where
-  pub known-few : w < n → n ≡ known_of l n
+  pub known-clamp : (r : ℕ) → r ≡ max n (min w (slot_count l)) → r ≡ known_of l n
   unfolding known_of
-  known-few q = rw (ne_eqb n 0 pos, ← e) (omega arith)
-
-  pub known_many : slot_count l < w → slot_count l ≡ known_of l n
-  unfolding known_of
-  known_many q = rw (ne_eqb n 0 pos, ← e) (omega arith)
+  known-clamp r q = q ∙ rw (ne_eqb n 0 pos, ← e)
 
   pub known-word : n ≤ w → w ≤ slot_count l → w ≡ known_of l n
   unfolding known_of

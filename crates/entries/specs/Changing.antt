@@ -1,4 +1,5 @@
 -- What the table's functions find, and what they leave: an entry that enters, leaves, or is the lowest and leaves.
+use Rattle.std.specs.Prelude.{None, Option, Some, is_some}
 use Rattle.std.specs.Prelude.{ℕ, zero, suc, ◌+◌, ◌-◌, ◌≤◌, ◌<◌, ◌≡◌, Bool, true, false, List, length, ltb}
 use Rattle.std.proofs.Math.Path.{refl, sym, ap}
 use Rattle.std.proofs.Common.{◌∙◌, add-one}
@@ -11,23 +12,21 @@ use Rattle.words.specs.Tables.{hole-end}
 use Rattle.entries.specs.Entries.{Entry, weight_of, key_of, insert_by, pooled, place_of}
 use Rattle.entries.specs.Order.{before, irrefl}
 use Rattle.entries.specs.Cells.{slot_count, slot_words, weight_word, use_word, cell, raw_at, known_of, known-none, known-low, known-high, key-same, slot_of, slot-in, slot-low, slot-ext, entry_at, entries_of, entries, entries-ext, in-id, in-weight, entry-ext, entry-is, put_cell, put-length, put-here, put-else, put-raw, put_raw, ord-length, ord-here, ord-else, ord-cell}
-use Rattle.entries.specs.Index.{used, used-same, used-none, indexed-same, indexed-more, InSlot, NoSlot}
+use Rattle.entries.specs.Index.{used, used-same, used-none, indexed-same, indexed-more, InSlot, NoSlot, FoundSlot}
 use Rattle.entries.specs.Turns.{perm-more}
 use Rattle.entries.specs.Ranks.{Ordered, ordered-ext, ordered-fewer, Ranks, nowhere, somewhere, not_there}
 use Rattle.entries.specs.Held.{Kept, Held, Settled, settled-held, settled-rows, settled-raws, Taken, Cleared, Filled}
 use Rattle.entries.specs.Layout.{EntriesOk, EntriesKept, Left, kept-as}
 use Rattle.entries.specs.Laws.{at_place, no_place, but-lowest}
-use Rattle.entries.specs.declared.table.Place.{Place}
-use Rattle.entries.specs.declared.table.Place.TheVariants.{At, Nowhere}
 
 -- ---- a search for an id: on any words a rank below n; where the words are a table, its place, found and absent
 
-pub record FoundRank (l : List ℕ) (u n k : ℕ) (r : Place) : Type 0 where
-  pub low : (q : ℕ) → r ≡ At q → q < n
+pub record FoundRank (l : List ℕ) (u n k : ℕ) (r : Option ℕ) : Type 0 where
+  pub low : (q : ℕ) → r ≡ Some q → q < n
   pub equals : Held l u n → r ≡ place_of k (entries_of l n)
 
 -- no slot in use has the id: no rank has
-pub slot-none : (l : List ℕ) (u n k : ℕ) → n ≤ u → NoSlot l u k → Held l u n → place_of k (entries_of l n) ≡ Nowhere
+pub slot-none : (l : List ℕ) (u n k : ℕ) → n ≤ u → NoSlot l u k → Held l u n → place_of k (entries_of l n) ≡ None
 unfolding NoSlot
 slot-none l u n k h f s =
     nowhere l n k
@@ -48,7 +47,7 @@ module _ (l : List ℕ) (u n k i : ℕ) (h : n ≤ u) (f : InSlot l u k i) (s : 
       let m = s.perm.named i f.low in
       ltb-true m.at n (sym (s.lives m.at m.low) ∙ ap (used l) m.is ∙ f.live s.index)
 
-  pub own-place : place_of k (entries_of l n) ≡ At own_rank
+  pub own-place : place_of k (entries_of l n) ≡ Some own_rank
   own-place = somewhere l n k own_rank own-low (ap (λ (x : Entry). x.id) (entry-is l own_rank i own-slot) ∙ in-id l i ∙ f.same) s.distinct
 
   own-weight : (entry_at l own_rank).weight ≡ cell l i weight_word
@@ -73,17 +72,17 @@ module _ (l : List ℕ) (u n k i : ℕ) (h : n ≤ u) (f : InSlot l u k i) (s : 
       go (no y) (yes z) = absurd (clash (s.sorted r own_rank z own-low) (its.above s.sorted r (omega arith) (omega (arith, own-low))))
       go (no y) (no z) = omega (arith, y, z)
 
-pub found_none : (l : List ℕ) (u n k : ℕ) → n ≤ u → NoSlot l u k → FoundRank l u n k Nowhere
+pub found_none : (l : List ℕ) (u n k : ℕ) → n ≤ u → NoSlot l u k → FoundRank l u n k None
 found_none l u n k h f =
     record { low = λ q e. let z : ◌≡◌ {A = ℕ} 0 1 = cc in absurd (omega arith); equals = λ s. sym (slot-none l u n k h f s) }
 
 module _ (l : List ℕ) (u n k i w r : ℕ) (h : n ≤ u) (f : InSlot l u k i) (e : w ≡ cell l i weight_word) (g : Ranks l n w k r) where
-  pub found_at : r < n → FoundRank l u n k (At r)
+  pub found_at : r < n → FoundRank l u n k (Some r)
   found_at b =
-      record { low = λ q z. let y : r ≡ q = cc in omega arith; equals = λ s. ap At (own_is l u n k i h f s w r e g) ∙ sym (own-place l u n k i h f s) }
+      record { low = λ q z. let y : r ≡ q = cc in omega arith; equals = λ s. ap Some (own_is l u n k i h f s w r e g) ∙ sym (own-place l u n k i h f s) }
 
   -- a rank beyond the others: that is no table
-  pub found-beyond : n ≤ r → FoundRank l u n k Nowhere
+  pub found-beyond : n ≤ r → FoundRank l u n k None
   found-beyond b =
       record {
         low = λ q z. let y : ◌≡◌ {A = ℕ} 0 1 = cc in absurd (omega arith);
@@ -99,17 +98,15 @@ module _ (l : List ℕ) (u n k : ℕ) (eu : u ≡ known_of l n) where
   pub kept_word : EntriesKept l n → 0 < n → raw_at l (slot_count l) ≡ u
   kept_word s p = s.word p ∙ sym eu
 
-  pub found-place : (r : Place) → FoundRank l u n k r → EntriesKept l n → r ≡ place_of k (entries_of l n)
+  pub found-place : (r : Option ℕ) → FoundRank l u n k r → EntriesKept l n → r ≡ place_of k (entries_of l n)
   found-place r f s = f.equals (kept-held s)
 
   low : n ≤ u
   low = rw eu (known-low l n)
 
-  pub slot-pooled : (i : ℕ) → InSlot l u k i → EntriesKept l n → true ≡ pooled k (entries_of l n)
-  slot-pooled i f s = sym (at_place k _ (entries_of l n) (own-place l u n k i low f (kept-held s))).is
-
-  pub slot-absent : NoSlot l u k → EntriesKept l n → false ≡ pooled k (entries_of l n)
-  slot-absent f s = sym (no_place k (entries_of l n) (slot-none l u n k low f (kept-held s))).is
+  pub slot-told : (r : Option ℕ) → FoundSlot l u k r → EntriesKept l n → is_some r ≡ pooled k (entries_of l n)
+  slot-told (Some i) f s = sym (at_place k _ (entries_of l n) (own-place l u n k i low f (kept-held s))).is
+  slot-told None f s = sym (no_place k (entries_of l n) (slot-none l u n k low f (kept-held s))).is
 
 known-pos : (l : List ℕ) (n : ℕ) → 0 < known_of l n → 0 < n
 known-pos l zero h = absurd (omega (arith, known-none l 0 refl))
@@ -259,11 +256,11 @@ module _ (l : List ℕ) (u n k : ℕ) (eu : u ≡ known_of l n) (fits : n ≤ sl
   kept_high : u ≤ slot_count l
   kept_high = rw eu (known-high l n fits)
 
-  pub removed-not : FoundRank l u n k Nowhere → EntriesKept l n → Left l l n (without (λ e. e.id) k (entries_of l n))
+  pub removed-not : FoundRank l u n k None → EntriesKept l n → Left l l n (without (λ e. e.id) k (entries_of l n))
   unfolding EntriesOk
   removed-not f s = record { rows = sym (no_place k (entries_of l n) (sym (f.equals (kept-held l u n k eu s)))).out; kept = s; ok = fits; words = refl }
 
-  pub removed-at : (a m : List ℕ) (j at : ℕ) → n ≡ suc j → length a ≡ length l → length m ≡ length a → FoundRank l u n k (At at) → Taken l a j at → Cleared a m u j → EntriesKept l n → Left l m j (without (λ e. e.id) k (entries_of l n))
+  pub removed-at : (a m : List ℕ) (j at : ℕ) → n ≡ suc j → length a ≡ length l → length m ≡ length a → FoundRank l u n k (Some at) → Taken l a j at → Cleared a m u j → EntriesKept l n → Left l m j (without (λ e. e.id) k (entries_of l n))
   unfolding EntriesOk
   removed-at a m j at e lena lenm f t c s =
       record {

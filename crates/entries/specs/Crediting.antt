@@ -1,4 +1,5 @@
 -- An entry's weight is raised, and it takes its place among those before it; an entry gets a validation cost and the time of its check.
+use Rattle.std.specs.Prelude.{None, Option, Some}
 use Rattle.std.specs.Prelude.{ℕ, zero, suc, ◌+◌, ◌≤◌, ◌<◌, ◌≡◌, true, List, ◌∷◌, length, set}
 use Rattle.std.proofs.Common.{suc-le-suc, sym, ap, ◌∙◌, le_of_suc-le-suc, arith, ne_eqb, lt-ltb}
 use Rattle.std.proofs.Math.Path.{refl}
@@ -17,8 +18,6 @@ use Rattle.entries.specs.Layout.{EntriesOk, EntriesKept, Left, kept-as}
 use Rattle.entries.specs.Places.{no_place, place-fits, place-id, credit-row, credit-none, stamp-row}
 use Rattle.entries.specs.Storing.{cost-of}
 use Rattle.entries.specs.Changing.{FoundRank, kept-held, kept_word, slot-none, own_rank, own-slot, own-low, own-place}
-use Rattle.entries.specs.declared.fields.ValidationCost.{ValidationCost}
-use Rattle.entries.specs.declared.table.Place.TheVariants.{At, Nowhere}
 
 -- ---- fields of slot i that neither the index nor an id reads are others
 
@@ -116,17 +115,17 @@ heavier w v k w' k' h g = go (ℕ_discrete w v)
     go (yes e) = rw e at h
     go (no e) = trans {A = ℕ × ℕ} (λ z. z.0) (λ z. z.1) (v, k) (w, k) (w', k') (rw (ne_eqb v w (λ z. e (sym z)), lt-ltb w v (omega (arith, e)))) h
 
-pub credited-not : (l : List ℕ) (u n k a : ℕ) → u ≡ known_of l n → n ≤ slot_count l → FoundRank l u n k Nowhere → EntriesKept l n → Left l l n (credit a k (entries_of l n))
+pub credited-not : (l : List ℕ) (u n k a : ℕ) → u ≡ known_of l n → n ≤ slot_count l → FoundRank l u n k None → EntriesKept l n → Left l l n (credit a k (entries_of l n))
 unfolding EntriesOk
 credited-not l u n k a eu fits f s =
     record { rows = credit-none a k (entries_of l n) (sym (f.equals (kept-held l u n k eu s))); kept = s; ok = fits; words = refl }
 
-module _ (l o m : List ℕ) (u n k a at w : ℕ) (eu : u ≡ known_of l n) (fits : n ≤ slot_count l) (f : FoundRank l u n k (At at)) (lenm : length m ≡ length o)
+module _ (l o m : List ℕ) (u n k a at w : ℕ) (eu : u ≡ known_of l n) (fits : n ≤ slot_count l) (f : FoundRank l u n k (Some at)) (lenm : length m ≡ length o)
     (r : Raised l o at a w) (p : Settled o m at w k) (s : EntriesKept l n) where
   held : Held l u n
   held = kept-held l u n k eu s
 
-  place : place_of k (entries_of l n) ≡ At at
+  place : place_of k (entries_of l n) ≡ Some at
   place = sym (f.equals held)
 
   lowat : at < n
@@ -188,12 +187,12 @@ module _ (l o m : List ℕ) (u n k a at w : ℕ) (eu : u ≡ known_of l n) (fits
 
 -- ---- a stamp
 
-pub record Stamps (l m : List ℕ) (i : ℕ) (v : ValidationCost) (t : ℕ) : Type 0 where
+pub record Stamps (l m : List ℕ) (i : ℕ) (v : Option ℕ) (t : ℕ) : Type 0 where
   pub changed : Changed l m i
   pub weights : (j : ℕ) → cell m j weight_word ≡ cell l j weight_word
   pub here : entry_in m i ≡ stamp v t (entry_in l i)
 
-module _ (l : List ℕ) (i : ℕ) (v : ValidationCost) (t : ℕ) (low : i < slot_count l) where
+module _ (l : List ℕ) (i : ℕ) (v : Option ℕ) (t : ℕ) (low : i < slot_count l) where
   abbrev one : List ℕ
   one = put_cell l i 8 (tag_of v)
 
@@ -248,7 +247,7 @@ module _ (l : List ℕ) (i : ℕ) (v : ValidationCost) (t : ℕ) (low : i < slot
         here = marked-here;
       }
 
-pub stamps-at : (l a b m : List ℕ) (i x y t : ℕ) (v : ValidationCost) → i < slot_count l → x ≡ tag_of v → y ≡ value_of v → a ≡ put_cell l i 8 x → b ≡ put_cell a i 9 y → m ≡ put_cell b i 11 t → Stamps l m i v t
+pub stamps-at : (l a b m : List ℕ) (i x y t : ℕ) (v : Option ℕ) → i < slot_count l → x ≡ tag_of v → y ≡ value_of v → a ≡ put_cell l i 8 x → b ≡ put_cell a i 9 y → m ≡ put_cell b i 11 t → Stamps l m i v t
 stamps-at l a b m i x y t v low ex ey ea eb em = rw (em, eb, ea, ex, ey) (stamps l i v t low)
 
 tab-set : {A : Type 0} (f g : ℕ → A) (n at : ℕ) (x : A) → at < n → g at ≡ x → ((i : ℕ) → i < n → (i ≡ at → ⊥) → g i ≡ f i) → tab g n ≡ set (tab f n) at x
@@ -257,12 +256,12 @@ tab-set f g (suc n) zero x b e h = λ k. e k ∷ tab-ext (λ i. g (suc i)) (λ i
 tab-set f g (suc n) (suc at) x b e h =
     λ k. h zero (omega arith) (λ z. omega arith) k ∷ tab-set (λ i. f (suc i)) (λ i. g (suc i)) n at x (le_of_suc-le-suc b) e (λ i q d. h (suc i) (suc-le-suc q) (λ z. d (omega arith))) k
 
-pub stamped-not : (l : List ℕ) (u n k : ℕ) (v : ValidationCost) (t : ℕ) → u ≡ known_of l n → n ≤ slot_count l → NoSlot l u k → EntriesKept l n → Left l l n (stamped k v t (entries_of l n))
+pub stamped-not : (l : List ℕ) (u n k : ℕ) (v : Option ℕ) (t : ℕ) → u ≡ known_of l n → n ≤ slot_count l → NoSlot l u k → EntriesKept l n → Left l l n (stamped k v t (entries_of l n))
 unfolding EntriesOk
 stamped-not l u n k v t eu fits f s =
     record { rows = sym ((no_place k (entries_of l n) (slot-none l u n k (rw eu (known-low l n)) f (kept-held l u n k eu s))).mark v t); kept = s; ok = fits; words = refl }
 
-module _ (l m : List ℕ) (u n k i : ℕ) (v : ValidationCost) (t : ℕ) (eu : u ≡ known_of l n) (fits : n ≤ slot_count l) (f : InSlot l u k i) (c : Stamps l m i v t) (s : EntriesKept l n) where
+module _ (l m : List ℕ) (u n k i : ℕ) (v : Option ℕ) (t : ℕ) (eu : u ≡ known_of l n) (fits : n ≤ slot_count l) (f : InSlot l u k i) (c : Stamps l m i v t) (s : EntriesKept l n) where
   its : Held l u n
   its = kept-held l u n k eu s
 
@@ -283,7 +282,7 @@ module _ (l m : List ℕ) (u n k i : ℕ) (v : ValidationCost) (t : ℕ) (eu : u
   unfolding rank
   rank-low = own-low l u n k i low-u f its
 
-  rank-place : place_of k (entries_of l n) ≡ At rank
+  rank-place : place_of k (entries_of l n) ≡ Some rank
   unfolding rank
   rank-place = own-place l u n k i low-u f its
 

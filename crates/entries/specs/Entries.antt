@@ -1,13 +1,10 @@
 -- The ordered pool's entries (document 01, "The ordered pool"): the pooled transactions in priority order, which is that of the Rust's `TxWeight`:
 -- weight falling, then id rising.
+use Rattle.std.specs.Prelude.{None, Option, Some}
 use Rattle.std.specs.Prelude.{ℕ, ◌+◌, ◌≡◌, refl, Bool, true, false, List, [], ◌∷◌, eqb, ltb}
 use Rattle.words.specs.Lists.{pick}
 use Rattle.words.specs.Find.{found, without, put_back}
 use Rattle.words.specs.Sums.{cap, capped}
-use Rattle.entries.specs.declared.fields.ValidationCost.{ValidationCost}
-use Rattle.entries.specs.declared.fields.ValidationCost.TheVariants.{Unmeasured, Measured}
-use Rattle.entries.specs.declared.table.Place.{Place}
-use Rattle.entries.specs.declared.table.Place.TheVariants.{At, Nowhere}
 
 pub record Entry : Type 0 where
   pub id : ℕ
@@ -17,7 +14,7 @@ pub record Entry : Type 0 where
   pub size : ℕ
   -- the cost that the base weight goes by, and "the entry's measured cost", or none
   pub cost : ℕ
-  pub validation_cost : ValidationCost
+  pub validation_cost : Option ℕ
   pub created : ℕ
   pub last_checked : ℕ
   -- the greatest output height as signed 32 bits, biased by 2^31, and 0 where there is no output
@@ -50,11 +47,11 @@ pooled k [] = false
 pooled k (e ∷ es) = pick (eqb e.id k) true (pooled k es)
 
 -- the place of the first entry of this id, where the list's first stands at i
-unfoldable pub place_from : ℕ → ℕ → List Entry → Place
-place_from i k [] = Nowhere
-place_from i k (e ∷ es) = pick (eqb e.id k) (At i) (place_from (i + 1) k es)
+unfoldable pub place_from : ℕ → ℕ → List Entry → Option ℕ
+place_from i k [] = None
+place_from i k (e ∷ es) = pick (eqb e.id k) (Some i) (place_from (i + 1) k es)
 
-unfoldable pub place_of : ℕ → List Entry → Place
+unfoldable pub place_of : ℕ → List Entry → Option ℕ
 place_of k es = place_from 0 k es
 
 -- "adds the child's base (capped at 2^64−1)": the entry of this id is taken out, raised and put back in order; where there is none, nothing
@@ -77,7 +74,7 @@ abbrev pub credit : ℕ → ℕ → List Entry → List Entry
 credit c k es = put_back insert_by (raised c) (found (λ e. e.id) k es) (without (λ e. e.id) k es)
 
 -- "valid, stamped, measured cost added": the entry of this id gets a validation cost and a time
-abbrev pub stamp : ValidationCost → ℕ → Entry → Entry
+abbrev pub stamp : Option ℕ → ℕ → Entry → Entry
 stamp v t e =
     record {
       id = e.id;
@@ -92,14 +89,14 @@ stamp v t e =
       inputs = e.inputs;
     }
 
-abbrev pub stamped : ℕ → ValidationCost → ℕ → List Entry → List Entry
+abbrev pub stamped : ℕ → Option ℕ → ℕ → List Entry → List Entry
 stamped k v t [] = []
 stamped k v t (e ∷ es) = pick (eqb e.id k) (stamp v t e ∷ es) (e ∷ stamped k v t es)
 
 -- ---- on the edges
 
 abbrev sample : ℕ → ℕ → Entry
-sample k w = record { id = k; weight = w; base = w; size = 0; cost = 0; validation_cost = Unmeasured; created = 0; last_checked = 0; height_key = 0; inputs = 0 }
+sample k w = record { id = k; weight = w; base = w; size = 0; cost = 0; validation_cost = None; created = 0; last_checked = 0; height_key = 0; inputs = 0 }
 
 abbrev three : List Entry
 three = sample 7 30 ∷ sample 2 20 ∷ sample 5 20 ∷ []
@@ -109,7 +106,7 @@ ties : (insert_by (sample 4 20) three ≡ sample 7 30 ∷ sample 2 20 ∷ sample
 unfolding ahead
 ties = (refl, refl)
 
-places : (place_of 5 three ≡ At 2) × (place_of 4 three ≡ Nowhere) × (pooled 5 three ≡ true) × (pooled 4 three ≡ false)
+places : (place_of 5 three ≡ Some 2) × (place_of 4 three ≡ None) × (pooled 5 three ≡ true) × (pooled 4 three ≡ false)
 unfolding place_of place_from
 places = (refl, refl, refl, refl)
 
@@ -118,5 +115,5 @@ credits : (credit 10 5 three ≡ raised 10 (sample 5 20) ∷ sample 7 30 ∷ sam
 unfolding ahead
 credits = (refl, refl, refl, refl)
 
-stamps : stamped 2 (Measured 6) 9 three ≡ sample 7 30 ∷ stamp (Measured 6) 9 (sample 2 20) ∷ sample 5 20 ∷ []
+stamps : stamped 2 (Some 6) 9 three ≡ sample 7 30 ∷ stamp (Some 6) 9 (sample 2 20) ∷ sample 5 20 ∷ []
 stamps = refl

@@ -1,5 +1,6 @@
 -- The entries' part of the store's validity: rows in priority order, each id once. What insertion, removal, a credit, a stamp and the loss of
 -- the last keep of it.
+use Rattle.std.specs.Prelude.{Option}
 use Rattle.std.specs.Prelude.{ℕ, ◌+◌, ◌≤◌, ◌≡◌, refl, Bool, true, false, List, [], ◌∷◌, map, eqb}
 use Rattle.std.proofs.Common.{ap, arith, eqb-true}
 use Rattle.std.proofs.lemmas.Bool.{eqb-false}
@@ -7,7 +8,6 @@ use Rattle.words.specs.Lists.{pick, count, Once, once-head, once-tail, once-cons
 use Rattle.words.specs.Find.{without, found, but_last, drop_last, put_back}
 use Rattle.entries.specs.Entries.{Entry, weight_of, key_of, ahead, insert_on, insert_by, pooled, raised, credit, stamp, stamped}
 use Rattle.entries.specs.Order.{before, sort_on, Behind, Sorted, asym, irrefl, total, behind-trans, insert-sorted, sort_sorted, count-insert, count-sort}
-use Rattle.entries.specs.declared.fields.ValidationCost.{ValidationCost}
 
 module _ {A : Type 0} (w k : A → ℕ) where
   pub record InOrder (xs : List A) : Type 0 where
@@ -148,7 +148,7 @@ entry-order e es h o = insert-order weight_of key_of e es (not-pooled e.id es h)
 pub credit-order : (c k : ℕ) (es : List Entry) → EntriesInOrder es → EntriesInOrder (credit c k es)
 credit-order c k es o = change-order weight_of key_of (raised c) (λ e. refl) k es o
 
-module _ (k : ℕ) (v : ValidationCost) (t : ℕ) where
+module _ (k : ℕ) (v : Option ℕ) (t : ℕ) where
   -- a view of the entries that reads neither a validation cost nor the time of a check sees no stamp
   pub stamp-view : {B : Type 0} (g : Entry → B) → ((e : Entry) → g (stamp v t e) ≡ g e) → (es : List Entry) → map g (stamped k v t es) ≡ map g es
   stamp-view g h [] = refl

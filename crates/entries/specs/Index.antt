@@ -1,4 +1,5 @@
 -- The index of ids. A slot that is not in use is in no bucket.
+use Rattle.std.specs.Prelude.{None, Option, Some}
 use Rattle.std.specs.Prelude.{ℕ, zero, suc, ◌+◌, ◌-◌, ◌/◌, ◌≤◌, ◌<◌, ◌≡◌, refl, Bool, true, false, List, length}
 use Rattle.std.proofs.Math.Path.{sym, ap}
 use Rattle.std.proofs.Common.{◌∙◌, arith, eq-eqb, ne_eqb}
@@ -10,8 +11,6 @@ use Rattle.words.specs.Ids.{Words, id_of, id-inj}
 use Rattle.words.specs.Buckets.{bucket_of, bucket-low}
 use Rattle.words.specs.Chains.{prev, prev-in, prev-gap, checked, checked-le, bounded, bounded-le}
 use Rattle.words.specs.declared.ids.Id.{Id}
-use Rattle.entries.specs.declared.chain.Slot.{Slot}
-use Rattle.entries.specs.declared.chain.Slot.TheVariants.{In, Absent}
 use Rattle.entries.specs.Splice.{Linked, linked-none, linked-same, linked-more}
 use Rattle.entries.specs.Cells.{slot_count, slot_words, last_word, use_word, link_word, head_word, cell, raw_at, id_in, bucket_key, AllWords, all-cell}
 
@@ -44,6 +43,11 @@ link_at l i = cell l i link_word
 
 unfoldable pub head_at : List ℕ → ℕ → ℕ
 head_at l b = cell l b head_word
+
+-- the word that names a slot: one more than its number, and 0 for none
+abbrev pub name_of : Option ℕ → ℕ
+name_of None = 0
+name_of (Some i) = suc i
 
 -- THE INDEX of the first u slots
 unfoldable pub Indexed : List ℕ → ℕ → Type 0
@@ -248,9 +252,9 @@ unfolding NoSlot
 no_slot l u k e = λ x j q. absurd (omega arith)
 
 -- what a search for an id answers
-abbrev pub FoundSlot : List ℕ → ℕ → ℕ → Slot → Type 0
-FoundSlot l u k (In i) = InSlot l u k i
-FoundSlot l u k Absent = NoSlot l u k
+abbrev pub FoundSlot : List ℕ → ℕ → ℕ → Option ℕ → Type 0
+FoundSlot l u k (Some i) = InSlot l u k i
+FoundSlot l u k None = NoSlot l u k
 
 -- words that the index does not read may be others
 pub indexed-fields : (l m : List ℕ) (u : ℕ) → length m ≡ length l → bucket_key m ≡ bucket_key l → ((i a : ℕ) → a < slot_words → (last_word < a → a < use_word → ⊥) → cell m i a ≡ cell l i a)

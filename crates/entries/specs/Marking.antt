@@ -2,7 +2,7 @@
 use Prim.Native.Nat.{ℕ, zero, suc, ◌+◌, ◌≤◌, ◌<◌}
 use Rattle.std.specs.Prelude.{◌≡◌, Bool, true, false, List, length, eqb}
 use Rattle.std.proofs.Math.Path.{refl, sym}
-use Rattle.std.proofs.Common.{ap, ◌∙◌, add-one}
+use Rattle.std.proofs.Common.{ap, ◌∙◌}
 use Rattle.std.proofs.Math.Bool.{not}
 use native.Mathlib.Omega.{arith}
 use Rattle.words.specs.Chains.{prev, prev-le, prev-ext, bounded}
@@ -262,9 +262,9 @@ module _ (l : List ℕ) (u b i p v : ℕ) (room : u ≤ slot_count l) (lowi : i 
       }
 
 -- what the code writes
-pub linked-in : (l a o m : List ℕ) (u b i p v below this : ℕ) → u ≤ slot_count l → i < slot_count l → b ≡ home_of l (cell l i last_word) → Cutting l u b i p v → below ≡ v → this ≡ i + 1
+pub linked-in : (l a o m : List ℕ) (u b i p v below this : ℕ) → u ≤ slot_count l → i < slot_count l → b ≡ home_of l (cell l i last_word) → Cutting l u b i p v → below ≡ v → this ≡ suc i
     → a ≡ put_cell l i link_word below → o ≡ mended a b p this → m ≡ put_cell o i use_word 1 → Marked l m u i true
-linked-in l a o m u b i p v below this room low eb c x y e f g = rw (g, f, e, x, y, add-one) (marked-in l u b i p v room low eb c)
+linked-in l a o m u b i p v below this room low eb c x y e f g = rw (g, f, e, x, y) (marked-in l u b i p v room low eb c)
 
 pub linked-out : (l a m : List ℕ) (u b i p v next : ℕ) → u ≤ slot_count l → i < slot_count l → b ≡ home_of l (cell l i last_word) → Cutting l u b i p v → next ≡ bounded i (link_at l i)
     → a ≡ mended l b p next → m ≡ put_cell a i use_word 0 → Marked l m u i false

@@ -1,17 +1,21 @@
 -- The entries by rank: their order, pointwise; the rank of a weight and an id, found by halving; and what the search for an id finds. A rank that is inserted
 -- or left out is insertion or removal in the list.
-use Rattle.std.specs.Prelude.{ℕ, zero, suc, ◌+◌, ◌≤◌, ◌<◌, ◌≡◌, Bool, List, [], ◌∷◌, map, eqb, ltb}
+use Rattle.std.specs.Prelude.{None, Some}
+use Rattle.std.specs.Prelude.{ℕ, zero, suc, ◌+◌, ◌*◌, ◌≤◌, ◌<◌, ◌≡◌, Bool, List, [], ◌∷◌, map, length, eqb, ltb}
+use Rattle.std.specs.List.Sorted.{IsPartitionedBy, IsPartitionPoint}
 use Rattle.std.proofs.Common.{suc-le-suc, ◌∙◌, le_of_suc-le-suc, add-zero, arith, eq-eqb, ne_eqb, lt-ltb, le-ltb}
 use Rattle.std.proofs.Math.Path.{refl, sym, ap}
 use Rattle.std.proofs.Math.Bool.{true, false}
 use Rattle.std.proofs.Math.Decide.{ℕ_discrete, dec_lt}
+use Rattle.std.proofs.Math.ListN.{get_or}
+use Rattle.std.proofs.lemmas.List.Edits.{get_or-between, length-between}
+use Rattle.std.proofs.lemmas.Grind.{get_or_default_zero}
 use Rattle.words.specs.Lists.{pick, insert_at, remove_at, count, Once, once-cons}
 use Rattle.words.specs.Rows.{tab, tab-ext}
 use Rattle.entries.specs.Entries.{Entry, weight_of, key_of, ahead, insert_by, pooled, place_from, place_of}
 use Rattle.entries.specs.Order.{before, Behind, Sorted, asym, trans}
 use Rattle.entries.specs.InOrder.{EntriesInOrder}
-use Rattle.entries.specs.Cells.{entry_at, entries_of}
-use Rattle.entries.specs.declared.table.Place.TheVariants.{At, Nowhere}
+use Rattle.entries.specs.Cells.{slot_count, slot_words, raw_at, ranks_of, slot_named, slot_of, entry_in, entry_at, entries_of}
 
 -- ---- the order
 
@@ -51,37 +55,42 @@ pub record Ranks (l : List ℕ) (n w k r : ℕ) : Type 0 where
   pub below : Ordered (entry_at l) n → (q : ℕ) → q < r → ahead_of (entry_at l q) w k ≡ true
   pub above : Ordered (entry_at l) n → (q : ℕ) → r ≤ q → q < n → ahead_of (entry_at l q) w k ≡ false
 
-pub record Halves (l : List ℕ) (n w k lo hi : ℕ) : Type 0 where
-  pub low : lo ≤ hi
-  pub high : hi ≤ n
-  pub below : Ordered (entry_at l) n → (r : ℕ) → r < lo → ahead_of (entry_at l r) w k ≡ true
-  pub above : Ordered (entry_at l) n → (r : ℕ) → hi ≤ r → r < n → ahead_of (entry_at l r) w k ≡ false
+-- what `partition_point` finds among the words of the first n ranks
+module _ (l ranks : List ℕ) (n w k : ℕ) (room : n ≤ slot_count l) (e : ranks ≡ ranks_of l n) where
+  -- whether the entry that a rank's word names is ahead
+  abbrev pub names-ahead : ℕ → Bool
+  names-ahead x = ahead_of (entry_in l (slot_named l x)) w k
 
-pub halves-all : (l : List ℕ) (n w k : ℕ) → Halves l n w k 0 n
-halves-all l n w k = record { low = omega arith; high = omega arith; below = λ x r h. absurd (omega arith); above = λ x r h g. absurd (omega arith) }
+  many : length ranks ≡ n
+  many = rw e (length-between l (slot_count l * slot_words) (slot_count l * slot_words + n) (omega arith) ∙ omega arith)
 
-module _ (l : List ℕ) (n w k lo hi mid : ℕ) (s : Halves l n w k lo hi) (a : lo ≤ mid) (b : mid < hi) where
-  pub halves-up : ahead_of (entry_at l mid) w k ≡ true → Halves l n w k (mid + 1) hi
+  ahead-at : (q d : ℕ) → q < n → names-ahead (get_or ranks q d) ≡ ahead_of (entry_at l q) w k
+  unfolding entry_at slot_of raw_at
+  ahead-at q d h =
+      rw e
+      (ap names-ahead (get_or-between l (slot_count l * slot_words) (slot_count l * slot_words + n) q d (omega arith) ∙ get_or_default_zero l (slot_count l * slot_words + q) d (omega arith)))
+
+  pub parted : Ordered (entry_at l) n → IsPartitionedBy names-ahead ranks
   unfolding Ordered
-  halves-up t = record { low = omega arith; high = s.high; below = λ x r h. go x r h (ℕ_discrete r mid); above = s.above }
+  parted o = λ i j d h g t. go i j d g t (ℕ_discrete i j) h
     where
-      go : ((a b : ℕ) → a < b → b < n → before weight_of key_of (entry_at l a) (entry_at l b) ≡ true) → (r : ℕ) → r < mid + 1 → Dec (r ≡ mid) → ahead_of (entry_at l r) w k ≡ true
-      go x r h (yes e) = rw e t
-      go x r h (no e) = ahead-trans (entry_at l r) (entry_at l mid) w k (x r mid (omega (arith, e)) (omega (arith, s.high))) t
+      go : (i j d : ℕ) → j < length ranks → names-ahead (get_or ranks j d) ≡ true → Dec (i ≡ j) → i ≤ j → names-ahead (get_or ranks i d) ≡ true
+      go i j d g t (yes e) h = rw e t
+      go i j d g t (no e) h =
+          ahead-at i d (omega (arith, many))
+          ∙ ahead-trans (entry_at l i) (entry_at l j) w k (o i j (omega (arith, e)) (omega (arith, many))) (sym (ahead-at j d (omega (arith, many))) ∙ t)
 
-  pub halves-down : ahead_of (entry_at l mid) w k ≡ false → Halves l n w k lo mid
-  unfolding Ordered
-  halves-down t =
-      record { low = a; high = omega (arith, s.high); below = s.below; above = λ x r h g. go x r g (ahead_of (entry_at l r) w k) refl (dec_lt mid r) h }
-    where
-      go : ((a b : ℕ) → a < b → b < n → before weight_of key_of (entry_at l a) (entry_at l b) ≡ true) → (r : ℕ) → r < n → (u : Bool) → ahead_of (entry_at l r) w k ≡ u → Dec (mid < r) → mid ≤ r → u ≡ false
-      go x r g false e d h = refl
-      go x r g true e (yes d) h = sym (ahead-trans (entry_at l mid) (entry_at l r) w k (x mid r d g) e) ∙ t
-      go x r g true e (no d) h = let z : mid ≡ r = omega (arith, d) in sym (rw z e) ∙ t
+  pub rank-is : (r : ℕ) → r ≤ length ranks → (IsPartitionedBy names-ahead ranks → IsPartitionPoint (λ x. names-ahead x ≡ true) (λ x. names-ahead x ≡ false) ranks r) → Ranks l n w k r
+  rank-is r h p =
+      record {
+        low = omega (arith, many);
+        below = λ o q b. sym (ahead-at q 0 (omega (arith, many))) ∙ (p (parted o)).0 q 0 (omega arith) b;
+        above = λ o q b c. sym (ahead-at q 0 c) ∙ (p (parted o)).1 q 0 b (omega (arith, many));
+      }
 
-pub halves-end : (l : List ℕ) (n w k lo hi : ℕ) → Halves l n w k lo hi → hi ≤ lo → Ranks l n w k lo
-halves-end l n w k lo hi s h =
-    record { low = omega (arith, s.low, s.high); below = s.below; above = λ x q g. s.above x q (omega (arith, h, g)) }
+-- where there are no ranks
+pub rank-none : (l : List ℕ) (n w k : ℕ) → n ≡ 0 → Ranks l n w k 0
+rank-none l n w k e = record { low = omega arith; below = λ s q b. absurd (omega arith); above = λ s q b c. absurd (omega arith) }
 
 -- ---- a list by its elements, in which one comes in or is left out
 
@@ -174,26 +183,26 @@ module _ (l m : List ℕ) (n at to : ℕ) (h : at ≤ n) (g : to ≤ at) (front 
 
 -- ---- the search for an id
 
-place_none : (k : ℕ) (f : ℕ → Entry) (n i : ℕ) → ((r : ℕ) → r < n → (f r).id ≡ k → ⊥) → place_from i k (tab f n) ≡ Nowhere
+place_none : (k : ℕ) (f : ℕ → Entry) (n i : ℕ) → ((r : ℕ) → r < n → (f r).id ≡ k → ⊥) → place_from i k (tab f n) ≡ None
 unfolding place_from
 place_none k f zero i h = refl
 place_none k f (suc n) i h = rw (ne_eqb (f zero).id k (h zero (omega arith))) (place_none k (λ r. f (suc r)) n (i + 1) (λ r b. h (suc r) (suc-le-suc b)))
 
-place_at : (k : ℕ) (f : ℕ → Entry) (n i at : ℕ) → at < n → (f at).id ≡ k → ((r : ℕ) → r < at → (f r).id ≡ k → ⊥) → place_from i k (tab f n) ≡ At (i + at)
+place_at : (k : ℕ) (f : ℕ → Entry) (n i at : ℕ) → at < n → (f at).id ≡ k → ((r : ℕ) → r < at → (f r).id ≡ k → ⊥) → place_from i k (tab f n) ≡ Some (i + at)
 unfolding place_from
 place_at k f zero i at h t o = absurd (omega arith)
 place_at k f (suc n) i zero h t o = rw (eq-eqb (f zero).id k t, add-zero i)
 place_at k f (suc n) i (suc at) h t o =
     rw (ne_eqb (f zero).id k (o zero (omega arith)))
-    (place_at k (λ r. f (suc r)) n (i + 1) at (le_of_suc-le-suc h) t (λ r b. o (suc r) (suc-le-suc b)) ∙ ap At (omega arith))
+    (place_at k (λ r. f (suc r)) n (i + 1) at (le_of_suc-le-suc h) t (λ r b. o (suc r) (suc-le-suc b)) ∙ ap Some (omega arith))
 
-pub nowhere : (l : List ℕ) (n k : ℕ) → ((r : ℕ) → r < n → (entry_at l r).id ≡ k → ⊥) → place_of k (entries_of l n) ≡ Nowhere
+pub nowhere : (l : List ℕ) (n k : ℕ) → ((r : ℕ) → r < n → (entry_at l r).id ≡ k → ⊥) → place_of k (entries_of l n) ≡ None
 unfolding entries_of place_of
 nowhere l n k h = place_none k (entry_at l) n 0 h
 
-pub somewhere : (l : List ℕ) (n k at : ℕ) → at < n → (entry_at l at).id ≡ k → ((r q : ℕ) → r < n → q < n → (entry_at l r).id ≡ (entry_at l q).id → r ≡ q) → place_of k (entries_of l n) ≡ At at
+pub somewhere : (l : List ℕ) (n k at : ℕ) → at < n → (entry_at l at).id ≡ k → ((r q : ℕ) → r < n → q < n → (entry_at l r).id ≡ (entry_at l q).id → r ≡ q) → place_of k (entries_of l n) ≡ Some at
 unfolding entries_of place_of
-somewhere l n k at h e d = place_at k (entry_at l) n 0 at h e (λ r b z. omega (arith, d r at (omega arith) h (z ∙ sym e))) ∙ ap At (omega arith)
+somewhere l n k at h e d = place_at k (entry_at l) n 0 at h e (λ r b z. omega (arith, d r at (omega arith) h (z ∙ sym e))) ∙ ap Some (omega arith)
 
 pooled-at : (k : ℕ) (f : ℕ → Entry) (n at : ℕ) → at < n → (f at).id ≡ k → pooled k (tab f n) ≡ true
 pooled-at k f zero at h e = absurd (omega arith)

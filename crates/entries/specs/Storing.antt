@@ -1,4 +1,5 @@
 -- The fourteen words of an entry are written in a slot.
+use Rattle.std.specs.Prelude.{None, Option, Some}
 use Rattle.std.specs.Prelude.{ℕ, zero, suc, ◌+◌, ◌*◌, ◌≤◌, ◌<◌, ◌≡◌, refl, List, [], ◌∷◌, ◌++◌, length, set}
 use Rattle.std.proofs.Common.{sym, ◌∙◌, add-zero, add-suc, suc-add, add_assoc, arith, length-set, get_or-set_same}
 use Rattle.std.proofs.Math.Decide.{dec_lt}
@@ -10,17 +11,15 @@ use Rattle.words.specs.Ids.{id_of, id_words}
 use Rattle.entries.specs.Cells.{entry_of, cost_of, tag_of, value_of, slot_count, slot_words, use_word, cell, raw_at, entry_in, entry_from, from-ext}
 use Rattle.entries.specs.Held.{EntryPut}
 use Rattle.entries.specs.declared.fields.PoolEntry.{PoolEntry}
-use Rattle.entries.specs.declared.fields.ValidationCost.{ValidationCost}
-use Rattle.entries.specs.declared.fields.ValidationCost.TheVariants.{Unmeasured, Measured}
 
 abbrev pub entry_words : PoolEntry → List ℕ
 entry_words e =
     id_words e.id
     ++ (e.weight ∷ e.base ∷ e.size ∷ e.cost ∷ tag_of e.validation_cost ∷ value_of e.validation_cost ∷ e.created ∷ e.last_checked ∷ e.height_key ∷ e.inputs ∷ [])
 
-pub cost-of : (c : ValidationCost) → cost_of (tag_of c) (value_of c) ≡ c
-cost-of Unmeasured = refl
-cost-of (Measured v) = refl
+pub cost-of : (c : Option ℕ) → cost_of (tag_of c) (value_of c) ≡ c
+cost-of None = refl
+cost-of (Some v) = refl
 
 -- ---- the code's stores: three calls and two words
 

@@ -1,10 +1,12 @@
 // The words of the table. Only this module and `fields` know the layout: S slots, (words − 2) / 18, of seventeen words each; behind them a word for each
 // rank, which names a slot; then how many slots are known, and the key of the buckets.
+#![tactic(auto, unfolding(crate::specs::Cells::cell, crate::specs::Cells::raw_at, crate::specs::Cells::put_cell, crate::specs::Cells::put_raw, crate::specs::Cells::slot_of))]
+
 ghost use Rattle.std.specs.Prelude.{◌≡◌, ◌+◌, ◌*◌, ◌≤◌, ◌<◌};
 ghost use Rattle.words.specs.Ids.{id_of};
-ghost use Rattle.entries.specs.Cells.{slot_count, slot_words, Stands, cell, raw_at, put_cell, put_raw, known_of, slot_of, id_in};
+ghost use Rattle.entries.specs.Cells.{slot_count, slot_words, Stands, cell, raw_at, put_cell, put_raw, known_of, slot_named, slot_of, ranks_of, id_in};
 
-use words::ids::{Id, load_id};
+use words::ids::{Id, get_id};
 
 // The words of a slot: an entry's are 0 to 13, the last of the id 3 and the weight 4.
 pub(crate) const SLOT: usize = 17;
@@ -12,7 +14,11 @@ pub(crate) const SLOT: usize = 17;
 pub(crate) const LAST: usize = 3;
 
 pub(crate) const WEIGHT: usize = 4;
-// Whether the slot is in use, what it links to, and the head of the bucket that has the slot's number.
+// Of the validation cost: whether there is one (1), and which.
+pub(crate) const MEASURED: usize = 8;
+
+pub(crate) const MEASURE: usize = 9;
+// Whether the slot is in use (1), what it links to, and the head of the bucket that has the slot's number.
 pub(crate) const USE: usize = 14;
 
 pub(crate) const LINK: usize = 15;
@@ -23,11 +29,7 @@ pub(crate) const HEAD: usize = 16;
 pub(crate) fn slots(s: &[u64]) -> usize
     ensures { result ≡ slot_count s.now }
 {
-    let n = s.len();
-    if n < 2 {
-        return 0;
-    }
-    (n - 2) / 18
+    s.len().saturating_sub(2) / 18
 }
 
 // Word `a` of slot `i`.
@@ -51,6 +53,15 @@ pub(crate) fn place(s: &[u64], r: usize) -> usize
     ensures { result ≡ slot_count s.now * slot_words + r }
 {
     slots(s) * SLOT + r
+}
+
+// The words of the first n ranks.
+pub(crate) fn ranks(s: &[u64], n: usize) -> &[u64]
+    requires { n ≤ slot_count s.now }
+    ensures { result.now ≡ ranks_of s.now n }
+{
+    let first = slots(s) * SLOT;
+    &s[first..first + n]
 }
 
 // The word of rank `r`.
@@ -78,26 +89,24 @@ pub(crate) fn known(s: &[u64], n: usize) -> usize
         return 0;
     }
     let most = slots(s);
-    let w = raw(s, most) as usize;
-    if w < n {
-        return n;
-    }
-    if most < w {
-        return most;
-    }
-    w
+    (raw(s, most) as usize).clamp(n, most)
 }
 
-// The slot of rank `r`. A word that names no slot is taken for the first.
+// The slot that the word of a rank names. A word that names no slot is taken for the first.
+pub(crate) fn slot_named(s: &[u64], word: u64) -> usize
+    requires { 0 < slot_count s.now }
+    ensures { (result ≡ slot_named s.now word) × (result < slot_count s.now) }
+{
+    let slot = word as usize;
+    if slot < slots(s) { slot } else { 0 }
+}
+
+// The slot of rank `r`.
 pub(crate) fn slot_at(s: &[u64], r: usize) -> usize
     requires { r < slot_count s.now }
     ensures { (result ≡ slot_of s.now r) × (result < slot_count s.now) }
 {
-    let w = raw(s, r) as usize;
-    if w < slots(s) {
-        return w;
-    }
-    0
+    slot_named(s, raw(s, r))
 }
 
 // The id in slot `i`.
@@ -105,5 +114,5 @@ pub(crate) fn id_in(s: &[u64], i: usize) -> Id
     requires { i < slot_count s.now }
     ensures { id_of result ≡ id_in s.now i }
 {
-    load_id(s, i * SLOT)
+    get_id(s, i * SLOT)
 }

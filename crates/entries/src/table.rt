@@ -1,5 +1,8 @@
 // The ordered pool's entries: found by id, put in, taken out, credited and stamped. Of the slots that are known n are in use; the first n ranks name them in
 // order, and the ranks behind those name the others, which are used again first. So no entry is moved, and a word moves for each rank passed.
+#![tactic(auto, unfolding(crate::specs::Layout::EntriesOk))]
+
+ghost use Rattle.std.specs.Prelude.{Some};
 ghost use Rattle.std.specs.Prelude.{◌≡◌, false, ℕ, ◌+◌, ◌-◌, ◌≤◌, ◌<◌};
 ghost use Rattle.words.specs.Ids.{id_of};
 ghost use Rattle.words.specs.Find.{without, drop_last};
@@ -9,45 +12,29 @@ ghost use Rattle.entries.specs.Layout.{EntriesOk, EntriesKept, Left, entry_of, e
 ghost use Rattle.entries.specs.Held.{Settled, Cleared, Filled};
 ghost use Rattle.entries.specs.Changing.{FoundRank, Grown};
 ghost use Rattle.entries.specs.Crediting.{Raised};
-ghost use Rattle.entries.specs.declared.table.Place.TheVariants.{At};
 
 use crate::cells::{USE, WEIGHT, get, known, put, put_raw, slot_at, slots};
-use crate::chain::{Slot, find_slot, link_in, link_out};
-use crate::fields::{PoolEntry, ValidationCost, put_entry, put_stamp};
+use crate::chain::{find_slot, link_in, link_out};
+use crate::fields::{PoolEntry, put_entry, put_stamp};
 use crate::order::{rank, turn_in, turn_out};
 use words::ids::Id;
-use words::sums::saturating_add;
-
-#[derive(Clone, Copy)]
-pub enum Place {
-    At(usize),
-    Nowhere,
-}
 
 // ---- what is looked for
 
 // The rank of the entry with this id, of u slots of which n are in use.
-fn find_rank(s: &[u64], u: usize, n: usize, id: Id) -> Place
+fn find_rank(s: &[u64], u: usize, n: usize, id: Id) -> Option<usize>
     requires { (n ≤ u) × (u ≤ slot_count s.now) }
     ensures { FoundRank s.now u n (id_of id) result }
 {
-    match find_slot(s, u, id) {
-        Slot::In(i) => {
-            let w = get(s, i, WEIGHT);
-            let r = rank(s, n, w, id);
-            if r < n {
-                return Place::At(r);
-            }
-            Place::Nowhere
-        }
-        Slot::Absent => Place::Nowhere,
-    }
+    let i = find_slot(s, u, id)?;
+    let r = rank(s, n, get(s, i, WEIGHT), id);
+    if r < n { Some(r) } else { None }
 }
 
 // The place of the entry with this id among n.
-pub fn find_entry(s: &[u64], n: usize, id: Id) -> Place
+pub fn find_entry(s: &[u64], n: usize, id: Id) -> Option<usize>
     requires { EntriesOk s.now n }
-    ensures by_index { (i : ℕ) → result ≡ At i → i < n }
+    ensures by_index { (i : ℕ) → result ≡ Some i → i < n }
     ensures value { EntriesKept s.now n → result ≡ place_of (id_of id) (entries_of s.now n) }
 {
     find_rank(s, known(s, n), n, id)
@@ -58,10 +45,7 @@ pub fn is_pooled(s: &[u64], n: usize, id: Id) -> bool
     requires { EntriesOk s.now n }
     ensures { EntriesKept s.now n → result ≡ pooled (id_of id) (entries_of s.now n) }
 {
-    match find_slot(s, known(s, n), id) {
-        Slot::In(_) => true,
-        Slot::Absent => false,
-    }
+    find_slot(s, known(s, n), id).is_some()
 }
 
 // ---- what the changes are made of
@@ -116,7 +100,7 @@ fn raise(s: &mut [u64], at: usize, amount: u64) -> u64
     ensures { Raised s.old s.new at amount result }
 {
     let i = slot_at(s, at);
-    let w = saturating_add(get(s, i, WEIGHT), amount);
+    let w = get(s, i, WEIGHT).saturating_add(amount);
     put(s, i, WEIGHT, w);
     w
 }
@@ -143,15 +127,13 @@ pub fn remove_entry(s: &mut [u64], n: usize, id: Id) -> usize
     ensures left { EntriesKept s.old n → Left s.old s.new result (without (λ e. e.id) (id_of id) (entries_of s.old n)) }
 {
     let u = known(s, n);
-    match find_rank(s, u, n, id) {
-        Place::At(at) => {
-            let last = n - 1;
-            turn_out(s, at, last);
-            clear(s, u, last);
-            last
-        }
-        Place::Nowhere => n,
-    }
+    let Some(at) = find_rank(s, u, n, id) else {
+        return n;
+    };
+    let last = n - 1;
+    turn_out(s, at, last);
+    clear(s, u, last);
+    last
 }
 
 // Takes the entry at the last of n ranks out. No word of a rank moves.
@@ -170,22 +152,18 @@ pub fn credit_entry(s: &mut [u64], n: usize, id: Id, amount: u64)
     ensures { EntriesKept s.old n → Left s.old s.new n (credit amount (id_of id) (entries_of s.old n)) }
 {
     let u = known(s, n);
-    match find_rank(s, u, n, id) {
-        Place::At(at) => {
-            let w = raise(s, at, amount);
-            settle(s, at, w, id);
-        }
-        Place::Nowhere => {}
+    if let Some(at) = find_rank(s, u, n, id) {
+        let w = raise(s, at, amount);
+        settle(s, at, w, id);
     }
 }
 
 // Gives the entry with this id a validation cost and the time of its check. Its rank is not looked for.
-pub fn stamp_entry(s: &mut [u64], n: usize, id: Id, cost: ValidationCost, time: u64)
+pub fn stamp_entry(s: &mut [u64], n: usize, id: Id, cost: Option<u64>, time: u64)
     requires { EntriesOk s.old n }
     ensures { EntriesKept s.old n → Left s.old s.new n (stamped (id_of id) cost time (entries_of s.old n)) }
 {
-    match find_slot(s, known(s, n), id) {
-        Slot::In(i) => put_stamp(s, i, cost, time),
-        Slot::Absent => {}
+    if let Some(i) = find_slot(s, known(s, n), id) {
+        put_stamp(s, i, cost, time);
     }
 }

@@ -1,5 +1,6 @@
 -- The rows that are held at a time are moved to the front, in order, and linked anew.
-use Rattle.std.specs.Prelude.{ℕ, ◌+◌, ◌-◌, ◌≤◌, ◌<◌, ◌≡◌, refl, true, false, List, [], ◌∷◌, ◌++◌, length}
+use Rattle.std.specs.Prelude.{ℕ, zero, suc, Bool, ◌&&◌, ◌+◌, ◌-◌, ◌≤◌, ◌<◌, ◌≡◌, refl, true, false, List, [], ◌∷◌, ◌++◌, length}
+use Rattle.std.specs.List.{list_all, range_with_len}
 use Rattle.std.proofs.Common.{sym, ap, ◌∙◌, arith, lt-ltb}
 use Rattle.words.specs.Lists.{pick, keep_snoc}
 use Rattle.expiring_cache.specs.Cache.{Held, young, fresh, prune}
@@ -11,12 +12,33 @@ use Rattle.expiring_cache.specs.Entering.{Pushed, push-rows}
 pub record Fresh (l : List ℕ) (f n ttl time : ℕ) : Type 0 where
   pub all : prune ttl time (window_of l f n) ≡ window_of l f n
 
-pub fresh-none : (l : List ℕ) (f ttl time : ℕ) → Fresh l f 0 ttl time
+each : (p : ℕ → Bool) (n a : ℕ) → list_all p (range_with_len a n) ≡ true → (i : ℕ) → i < n → p (a + i) ≡ true
+each p zero a e i h = absurd (omega arith)
+each p (suc n) a e i h = go (p a) refl e (each p n (a + 1)) i h
+  where
+    go : (t : Bool) → p a ≡ t → (t && list_all p (range_with_len (a + 1) n)) ≡ true
+        → (list_all p (range_with_len (a + 1) n) ≡ true → (i : ℕ) → i < n → p (a + 1 + i) ≡ true) → (i : ℕ) → i < suc n → p (a + i) ≡ true
+    go true q e r zero h = let z : a + 0 ≡ a = omega arith in ap p z ∙ q
+    go true q e r (suc i) h = let z : a + suc i ≡ a + 1 + i = omega arith in ap p z ∙ r e i (omega arith)
+    go false q e r i h = sym (ap (λ (b : Bool). pick b (p (a + i)) true) e)
+
+fresh-none : (l : List ℕ) (f ttl time : ℕ) → Fresh l f 0 ttl time
 fresh-none l f ttl time = record { all = rw (window-none l f) }
 
-pub fresh-more : (l : List ℕ) (f i ttl time : ℕ) → Fresh l f i ttl time → young ttl time (slot_at l (f + i)).since ≡ true → Fresh l f (i + 1) ttl time
+fresh-more : (l : List ℕ) (f i ttl time : ℕ) → Fresh l f i ttl time → young ttl time (slot_at l (f + i)).since ≡ true → Fresh l f (i + 1) ttl time
 fresh-more l f i ttl time h t =
     record { all = rw (window-suc l f i, keep_snoc (fresh ttl time) (window_of l f i) (slot_at l (f + i)), t, h.all) }
+
+-- what the code finds of each row
+pub fresh-all : (l : List ℕ) (f n ttl time : ℕ) → list_all (λ i. young ttl time (slot_at l (f + i)).since) (range_with_len 0 n) ≡ true → Fresh l f n ttl time
+fresh-all l f n ttl time e = first n (omega arith)
+  where
+    first : (k : ℕ) → k ≤ n → Fresh l f k ttl time
+    first zero h = fresh-none l f ttl time
+    first (suc k) h =
+        let i : suc k ≡ k + 1 = omega arith in
+        let z : 0 + k ≡ k = omega arith in
+        rw i (fresh-more l f k ttl time (first k (omega arith)) (ap (λ (x : ℕ). young ttl time (slot_at l (f + x)).since) (sym z) ∙ each (λ i. young ttl time (slot_at l (f + i)).since) n 0 e k (omega arith)))
 
 -- at time 0 all rows are of age 0
 pub all_stay : (xs : List Held) → prune 1 0 xs ≡ xs
@@ -74,8 +96,3 @@ module _ (l₀ : List ℕ) (f n ttl time : ℕ) (l : List ℕ) (w i : ℕ) (s : 
         rest = λ j q. k.rest (f + j) (λ z. omega (arith, s.low)) ∙ s.rest j (omega arith);
         index = k.index s.index;
       }
-
-pub gathers-all : (l₀ : List ℕ) (f n ttl time : ℕ) (l : List ℕ) (w i : ℕ) → Gathers l₀ f n ttl time l w i → n ≤ i → Gathered l₀ l f n w ttl time
-gathers-all l₀ f n ttl time l w i s h =
-    let e : i ≡ n = omega (arith, s.high) in
-    record { low = omega (arith, s.low, s.high); rows = rw e at s.rows; index = s.index }

@@ -4,7 +4,7 @@
 use Rattle.std.specs.Prelude.{ℕ, zero, suc, ◌+◌, ◌-◌, ◌*◌, ◌/◌, ◌≤◌, ◌<◌, min, ◌≡◌, refl, List, [], ◌∷◌, ◌++◌, length, get_or, set, drop}
 use Rattle.std.proofs.Common.{ap, ◌∙◌, add-zero, arith, length-set, drop_at, get_or-set_same}
 use Rattle.words.specs.Rows.{tab, length-tab, get_or-tab, tab-ext, tab-add}
-use Rattle.words.specs.Ids.{id_of, id_at, words_at}
+use Rattle.words.specs.Ids.{id_of, id_at}
 use Rattle.words.specs.Lists.{Once}
 use Rattle.words.specs.Buckets.{bucket_of}
 use Rattle.words.specs.Chains.{Chained, chained-none}
@@ -22,14 +22,7 @@ slots_in l = (length l - 2) / 7
 unfoldable pub held_of : Row → Held
 held_of r = record { id = id_of r.id; since = r.since }
 
--- the words from index p are among n
-abbrev pub Five : ℕ → ℕ → Type 0
-Five p n = (p < n) × (p + 1 < n) × (p + 2 < n) × (p + 3 < n) × (p + 4 < n)
-
--- a row that is read from index p, and the words of one: what the code reads and writes
-abbrev pub row_at : List ℕ → ℕ → Row
-row_at l p = record { id = words_at l p; since = get_or l (p + 4) 0 }
-
+-- the words of a row
 abbrev pub row_words : Row → List ℕ
 row_words r = r.id.a ∷ r.id.b ∷ r.id.c ∷ r.id.d ∷ r.since ∷ []
 

@@ -1,4 +1,6 @@
 -- A search by the index finds what a search of the rows, oldest first, finds.
+use Rattle.std.specs.Prelude.{None, Option, Some}
+use Rattle.std.specs.Option.{MatchOption, is_some}
 use Prim.Native.Nat.{ℕ, zero, suc, ◌+◌, ◌-◌, ◌*◌, ◌^◌, ◌≤◌, ◌<◌}
 use Rattle.std.proofs.Math.Path.{◌≡◌, refl, ap}
 use Rattle.std.proofs.Common.{sym, ◌∙◌, arith}
@@ -17,40 +19,39 @@ use Rattle.words.specs.declared.ids.Id.{Id}
 use Rattle.expiring_cache.specs.Cache.{Held, young, present, held}
 use Rattle.expiring_cache.specs.Laws.{ids}
 use Rattle.expiring_cache.specs.Layout.{slots_in, slot_at, key_in, hash_at, link_at, head_at, first_of, window_of, window-length, window-get, cache_of, Windowed, CacheKept}
-use Rattle.expiring_cache.specs.declared.links.Found.{Found}
-use Rattle.expiring_cache.specs.declared.links.Found.TheVariants.{Since, Absent}
 
 -- ---- the search of the rows
 
 -- the time that the first row with this id has
-unfoldable pub since_of : ℕ → List Held → Found
-since_of k [] = Absent
-since_of k (x ∷ xs) = pick (eqb x.id k) (Since x.since) (since_of k xs)
+unfoldable pub since_of : ℕ → List Held → Option ℕ
+since_of k [] = None
+since_of k (x ∷ xs) = pick (eqb x.id k) (Some x.since) (since_of k xs)
 
 -- what it says of an id
-abbrev pub is_some : Found → Bool
-is_some (Since t) = true
-is_some Absent = false
-
-abbrev pub is_young : ℕ → ℕ → Found → Bool
-is_young ttl time (Since t) = young ttl time t
-is_young ttl time Absent = false
+abbrev pub is_young : ℕ → ℕ → Option ℕ → Bool
+is_young ttl time (Some t) = young ttl time t
+is_young ttl time None = false
 
 pub since-present : (k : ℕ) (xs : List Held) → present k xs ≡ is_some (since_of k xs)
 unfolding since_of
 since-present k [] = refl
 since-present k (x ∷ xs) = go (eqb x.id k) (since-present k xs)
   where
-    go : (t : Bool) → present k xs ≡ is_some (since_of k xs) → pick t true (present k xs) ≡ is_some (pick t (Since x.since) (since_of k xs))
+    go : (t : Bool) → present k xs ≡ is_some (since_of k xs) → pick t true (present k xs) ≡ is_some (pick t (Some x.since) (since_of k xs))
     go true h = refl
     go false h = h
+
+-- by what the code does with it
+pub young-of : (ttl time : ℕ) (b : Bool) (r : Option ℕ) → MatchOption r (b ≡ false) (λ t. b ≡ young ttl time t) → b ≡ is_young ttl time r
+young-of ttl time b None e = e
+young-of ttl time b (Some t) e = e
 
 pub since-held : (ttl time k : ℕ) (xs : List Held) → held ttl time k xs ≡ is_young ttl time (since_of k xs)
 unfolding since_of
 since-held ttl time k [] = refl
 since-held ttl time k (x ∷ xs) = go (eqb x.id k) (since-held ttl time k xs)
   where
-    go : (t : Bool) → held ttl time k xs ≡ is_young ttl time (since_of k xs) → pick t (young ttl time x.since) (held ttl time k xs) ≡ is_young ttl time (pick t (Since x.since) (since_of k xs))
+    go : (t : Bool) → held ttl time k xs ≡ is_young ttl time (since_of k xs) → pick t (young ttl time x.since) (held ttl time k xs) ≡ is_young ttl time (pick t (Some x.since) (since_of k xs))
     go true h = refl
     go false h = h
 
@@ -61,17 +62,17 @@ module _ (k : ℕ) (d : Held) where
   stands (x ∷ xs) (suc i) h e = omega (arith, stands xs i (omega arith) e)
 
   -- where no id stands twice, any row with the id is the first
-  since-any : (xs : List Held) (i : ℕ) → Once (ids xs) → i < length xs → (get_or xs i d).id ≡ k → since_of k xs ≡ Since (get_or xs i d).since
+  since-any : (xs : List Held) (i : ℕ) → Once (ids xs) → i < length xs → (get_or xs i d).id ≡ k → since_of k xs ≡ Some (get_or xs i d).since
   unfolding since_of
   since-any [] i o h e = absurd (omega arith)
   since-any (x ∷ xs) zero o h e = rw (eq-eqb x.id k e)
   since-any (x ∷ xs) (suc i) o h e = go (eqb x.id k) refl (o k) (since-any xs i (λ j. omega (arith, o j)) (omega arith) e)
     where
-      go : (t : Bool) → eqb x.id k ≡ t → pick t 1 0 + count k (ids xs) ≤ 1 → since_of k xs ≡ Since (get_or xs i d).since → pick t (Since x.since) (since_of k xs) ≡ Since (get_or xs i d).since
+      go : (t : Bool) → eqb x.id k ≡ t → pick t 1 0 + count k (ids xs) ≤ 1 → since_of k xs ≡ Some (get_or xs i d).since → pick t (Some x.since) (since_of k xs) ≡ Some (get_or xs i d).since
       go true q u ih = absurd (omega (arith, stands xs i (omega arith) e))
       go false q u ih = ih
 
-  since_none : (xs : List Held) → ((i : ℕ) → i < length xs → eqb (get_or xs i d).id k ≡ false) → since_of k xs ≡ Absent
+  since_none : (xs : List Held) → ((i : ℕ) → i < length xs → eqb (get_or xs i d).id k ≡ false) → since_of k xs ≡ None
   unfolding since_of
   since_none [] h = refl
   since_none (x ∷ xs) h = rw (h 0 (omega arith)) (since_none xs (λ i q. h (suc i) (omega arith)))
@@ -103,15 +104,15 @@ module _ (h : ℕ → ℕ) (n b w x : ℕ) (f : w ≡ x) where
   unfolding checked
   head_in j y e q g d = rw (← f, e, lt-ltb j n (omega arith), eq-eqb (h j) b (sym g ∙ d))
 
--- a word x less the window's start f: t by the code
-module _ (l : List ℕ) (f w t g i : ℕ) (a : w ≡ t) where
-  pub head-word : t ≡ get_or l (i * 7 + 6) 0 - g → g ≡ f → w ≡ head_at l i - f
+-- a word less the window's start f
+module _ (l : List ℕ) (f w i : ℕ) where
+  pub head-word : w ≡ get_or l (i * 7 + 6) 0 - f → w ≡ head_at l i - f
   unfolding head_at
-  head-word b e = a ∙ b ∙ ap (λ (x : ℕ). get_or l (i * 7 + 6) 0 - x) e
+  head-word e = e
 
-  pub link-word : t ≡ get_or l (i * 7 + 5) 0 - g → g ≡ f → w ≡ link_at l i - f
+  pub link-word : w ≡ get_or l (i * 7 + 5) 0 - f → w ≡ link_at l i - f
   unfolding link_at
-  link-word b e = a ∙ b ∙ ap (λ (x : ℕ). get_or l (i * 7 + 5) 0 - x) e
+  link-word e = e
 
 pub link-far : (i w x : ℕ) → w ≡ x → i < w → 0 ≡ bounded i x
 unfolding bounded
@@ -187,7 +188,7 @@ module _ (l : List ℕ) (f n : ℕ) (key : Id) (w : AllWords l) (wk : Words key)
 -- ---- what the search answers
 
 module _ (l : List ℕ) (n : ℕ) (key : Id) where
-  pub seek-empty : n ≡ 0 → Absent ≡ since_of (id_of key) (cache_of l n)
+  pub seek-empty : n ≡ 0 → None ≡ since_of (id_of key) (cache_of l n)
   unfolding cache_of window_of since_of
   seek-empty e = rw e
 
@@ -199,7 +200,7 @@ module _ (l : List ℕ) (n : ℕ) (key : Id) where
     unfolding cache_of
     is-window = ap (λ (x : ℕ). window_of l x n) start
 
-    pub seek-end : v ≡ 0 → CacheKept l n → Absent ≡ since_of (id_of key) (cache_of l n)
+    pub seek-end : v ≡ 0 → CacheKept l n → None ≡ since_of (id_of key) (cache_of l n)
     seek-end e k =
         sym
         (ap (since_of (id_of key)) (sym is-window)
@@ -208,12 +209,12 @@ module _ (l : List ℕ) (n : ℕ) (key : Id) where
         let b : i < n = omega (arith, window-length l f n) in
         rw (window-get l f n i (slot_at l 0) b) (s.none (index k) i (omega arith) b)))
 
-    pub seek_hit : (i t y : ℕ) → v ≡ suc i → y ≡ (slot_at l (f + i)).id → eqb y (id_of key) ≡ true → t ≡ (slot_at l (f + i)).since → CacheKept l n → Since t ≡ since_of (id_of key) (cache_of l n)
+    pub seek_hit : (i t y : ℕ) → v ≡ suc i → y ≡ (slot_at l (f + i)).id → eqb y (id_of key) ≡ true → t ≡ (slot_at l (f + i)).since → CacheKept l n → Some t ≡ since_of (id_of key) (cache_of l n)
     seek_hit i t y e a h g k =
         let b : i < n = omega (arith, s.low) in
         let at = window-get l f n i (slot_at l 0) b in
-        ap Since g
+        ap Some g
         ∙ sym
         (ap (since_of (id_of key)) (sym is-window)
         ∙ since-any (id_of key) (slot_at l 0) (window_of l f n) i (rw is-window k.once) (omega (arith, window-length l f n)) (ap (λ (x : Held). x.id) at ∙ sym a ∙ eqb-true y (id_of key) h)
-        ∙ ap (λ (x : Held). Since x.since) at)
+        ∙ ap (λ (x : Held). Some x.since) at)

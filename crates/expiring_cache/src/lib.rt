@@ -5,17 +5,17 @@
 mod links;
 mod rows;
 
-ghost use Rattle.std.specs.Prelude.{◌≡◌, true, ◌+◌, ◌-◌, ◌≤◌, ◌<◌, max};
+ghost use Rattle.std.specs.Prelude.{◌≡◌, ◌+◌, ◌-◌, ◌≤◌, ◌<◌, max};
+ghost use Rattle.std.specs.List.{list_all, range_with_len};
 ghost use Rattle.words.specs.Ids.{id_of};
 ghost use Rattle.expiring_cache.specs.Cache.{young, present, held};
-ghost use Rattle.expiring_cache.specs.Layout.{slots_in, cache_of, cache_room, CacheOk, CacheKept, Inserted, Pruned};
-ghost use Rattle.expiring_cache.specs.Gathering.{Fresh, Gathered};
+ghost use Rattle.expiring_cache.specs.Layout.{slots_in, slot_at, cache_of, cache_room, CacheOk, CacheKept, Inserted, Pruned};
+ghost use Rattle.expiring_cache.specs.Gathering.{Gathered};
 ghost use Rattle.expiring_cache.specs.Adding.{Roomy, Added};
 
-use crate::links::{Found, get, push};
+use crate::links::{get, push};
 use crate::rows::{Row, first_slot, load_row, put_first, row_since, slot_count};
 use words::ids::Id;
-use words::sums::saturating_sub;
 
 // How many rows the words have room for: the other slots are slack, so that the window is moved at most once in as many insertions.
 pub fn cache_room(cache: &[u64]) -> usize
@@ -31,17 +31,14 @@ fn contains_key(cache: &[u64], n: usize, id: Id) -> bool
     requires { CacheOk cache.now n }
     ensures { CacheKept cache.now n → result ≡ present (id_of id) (cache_of cache.now n) }
 {
-    match get(cache, n, id) {
-        Found::Since(_) => true,
-        Found::Absent => false,
-    }
+    get(cache, n, id).is_some()
 }
 
 // Whether what was held from `since` on still is.
 fn is_fresh(since: u64, ttl: u64, time: u64) -> bool
     ensures { result ≡ young ttl time since }
 {
-    saturating_sub(time, since) < ttl
+    time.saturating_sub(since) < ttl
 }
 
 // Whether the id is held at this time.
@@ -49,10 +46,7 @@ pub fn contains(cache: &[u64], n: usize, ttl: u64, time: u64, id: Id) -> bool
     requires { CacheOk cache.now n }
     ensures { CacheKept cache.now n → result ≡ held ttl time (id_of id) (cache_of cache.now n) }
 {
-    match get(cache, n, id) {
-        Found::Since(since) => is_fresh(since, ttl, time),
-        Found::Absent => false,
-    }
+    get(cache, n, id).is_some_and(|since| is_fresh(since, ttl, time))
 }
 
 // ---- the window is moved to the front
@@ -63,15 +57,11 @@ fn gather(cache: &mut [u64], first: usize, n: usize, ttl: u64, time: u64) -> usi
     ensures { Gathered cache.old cache.new first n result ttl time }
 {
     let mut w = 0;
-    let mut i = 0;
-    while i < n {
+    for i in 0..n {
         let row = load_row(cache, first + i);
         if is_fresh(row.since, ttl, time) {
             push(cache, 0, w, row);
             w += 1;
-            i += 1;
-        } else {
-            i += 1;
         }
     }
     w
@@ -95,13 +85,7 @@ fn make_room(cache: &mut [u64], first: usize, n: usize) -> usize
 fn excess(n: usize, capacity: usize) -> usize
     ensures { result ≡ n + 1 - max capacity 1 }
 {
-    if capacity == 0 {
-        return n;
-    }
-    if n < capacity {
-        return 0;
-    }
-    n - capacity + 1
+    n.saturating_sub(capacity.saturating_sub(1))
 }
 
 // Puts an id that is not there behind the n rows; the oldest go where the cache is full.
@@ -136,16 +120,9 @@ pub fn insert(cache: &mut [u64], n: usize, capacity: usize, time: u64, id: Id) -
 // Whether all of n rows from slot `first` on are held at this time.
 fn all_fresh(cache: &[u64], first: usize, n: usize, ttl: u64, time: u64) -> bool
     requires { first + n ≤ slots_in cache.now }
-    ensures { result ≡ true → Fresh cache.now first n ttl time }
+    ensures { result ≡ list_all (λ i. young ttl time (slot_at cache.now (first + i)).since) (range_with_len 0 n) }
 {
-    let mut i = 0;
-    while i < n {
-        if !is_fresh(row_since(cache, first + i), ttl, time) {
-            return false;
-        }
-        i += 1;
-    }
-    true
+    (0..n).all(|i| is_fresh(row_since(cache, first + i), ttl, time))
 }
 
 // Keeps, in order, the rows that are held at this time, and returns how many they are. Where all are, no word changes.

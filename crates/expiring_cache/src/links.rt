@@ -11,16 +11,11 @@ ghost use Rattle.expiring_cache.specs.Index.{linked_in};
 ghost use Rattle.expiring_cache.specs.Entering.{Pushed};
 ghost use Rattle.expiring_cache.specs.Seeking.{since_of};
 
-use crate::rows::{Row, first_slot, index_of, row_id, row_since, slot_count, store_row, word_of};
+use crate::rows::{
+    HEAD, LINK, Row, SLOT_WORDS, first_slot, row_id, row_since, slot_count, store_row,
+};
 use words::buckets::bucket_of;
-use words::ids::{Id, same_id};
-use words::sums::saturating_sub;
-
-#[derive(Clone, Copy)]
-pub enum Found {
-    Since(u64),
-    Absent,
-}
+use words::ids::Id;
 
 // The bucket of ids whose last word is `d`.
 fn bucket(cache: &[u64], d: u64) -> usize
@@ -28,7 +23,7 @@ fn bucket(cache: &[u64], d: u64) -> usize
     ensures { (result ≡ bucket_of d (key_in cache.now) (slots_in cache.now)) × (result < slots_in cache.now) }
 {
     let n = slot_count(cache);
-    bucket_of(d, cache[n * 7 + 1], n)
+    bucket_of(d, cache[n * SLOT_WORDS + 1], n)
 }
 
 // The bucket of the id in slot `i`.
@@ -36,15 +31,16 @@ fn bucket_at(cache: &[u64], i: usize) -> usize
     requires { i < slots_in cache.now }
     ensures { (result ≡ hash_at cache.now i) × (result < slots_in cache.now) }
 {
-    bucket(cache, cache[i * 7 + 3])
+    bucket(cache, cache[i * SLOT_WORDS + 3])
 }
 
-// One more than the place of the newest of n rows from slot `first` on that is in bucket `b`, or 0.
+// One more than the place of the newest of n rows from slot `first` on that is in bucket `b`, or 0: a number, as heads and links are stored, since
+// `link_in` writes it as it is.
 fn head(cache: &[u64], first: usize, n: usize, b: usize) -> usize
     requires { (first + n ≤ slots_in cache.now) × (b < slots_in cache.now) }
     ensures { result ≡ checked (λ (i : ℕ). hash_at cache.now (first + i)) n b (head_at cache.now b - first) }
 {
-    let w = index_of(saturating_sub(cache[b * 7 + 6], word_of(first)));
+    let w = (cache[b * SLOT_WORDS + HEAD] as usize).saturating_sub(first);
     if w == 0 {
         return 0;
     }
@@ -57,12 +53,12 @@ fn head(cache: &[u64], first: usize, n: usize, b: usize) -> usize
     w
 }
 
-// One more than the place of the row that the row at place `i` links to, or 0.
+// One more than the place of the row that the row at place `i` links to, or 0, as the words have it.
 fn link(cache: &[u64], first: usize, i: usize) -> usize
     requires { first + i < slots_in cache.now }
     ensures { result ≡ bounded i (link_at cache.now (first + i) - first) }
 {
-    let w = index_of(saturating_sub(cache[(first + i) * 7 + 5], word_of(first)));
+    let w = (cache[(first + i) * SLOT_WORDS + LINK] as usize).saturating_sub(first);
     if i < w {
         return 0;
     }
@@ -76,10 +72,8 @@ fn link_in(cache: &mut [u64], first: usize, n: usize)
 {
     let b = bucket_at(cache, first + n);
     let h = head(cache, first, n, b);
-    let old = word_of(first + h);
-    let new = word_of(first + n + 1);
-    cache[(first + n) * 7 + 5] = old;
-    cache[b * 7 + 6] = new;
+    cache[(first + n) * SLOT_WORDS + LINK] = (first + h) as u64;
+    cache[b * SLOT_WORDS + HEAD] = (first + n + 1) as u64;
 }
 
 // Puts a row behind n rows, which stand from slot `first` on, and at the head of its bucket.
@@ -92,21 +86,22 @@ pub(crate) fn push(cache: &mut [u64], first: usize, n: usize, x: Row)
 }
 
 // The time that the row with this id has.
-pub(crate) fn get(cache: &[u64], n: usize, id: Id) -> Found
+pub(crate) fn get(cache: &[u64], n: usize, id: Id) -> Option<u64>
     requires { CacheOk cache.now n }
     ensures { CacheKept cache.now n → result ≡ since_of (id_of id) (cache_of cache.now n) }
 {
     if n == 0 {
-        return Found::Absent;
+        return None;
     }
     let first = first_slot(cache, n);
     let mut v = head(cache, first, n, bucket(cache, id.d));
+    // A walk from link to link, which no list holds: no iterator is plainer.
     while v != 0 {
         let i = v - 1;
-        if same_id(row_id(cache, first + i), id) {
-            return Found::Since(row_since(cache, first + i));
+        if row_id(cache, first + i) == id {
+            return Some(row_since(cache, first + i));
         }
         v = link(cache, first, i);
     }
-    Found::Absent
+    None
 }

@@ -4,10 +4,20 @@
 ghost use Rattle.std.specs.Prelude.{◌≡◌, ◌+◌, ◌*◌, ◌≤◌, ◌<◌, length, set};
 ghost use Rattle.words.specs.Ids.{id_of};
 ghost use Rattle.words.specs.Rows.{stored};
-ghost use Rattle.expiring_cache.specs.Layout.{slots_in, Five, row_at, row_words, held_of, slot_at, first_of};
+ghost use Rattle.expiring_cache.specs.Layout.{slots_in, row_words, held_of, slot_at, first_of};
 
-use words::ids::{Id, load_id};
-use words::sums::smaller;
+use words::ids::{Id, get_id, put_id};
+
+// The words of a slot.
+pub(crate) const SLOT_WORDS: usize = 7;
+// Which of them is the time, the slot's link, and the head of the bucket of its number.
+const SINCE: usize = 4;
+
+pub(crate) const LINK: usize = 5;
+
+pub(crate) const HEAD: usize = 6;
+// The words behind the slots.
+const WINDOW_WORDS: usize = 2;
 
 #[derive(Clone, Copy)]
 pub struct Row {
@@ -15,54 +25,11 @@ pub struct Row {
     pub since: u64,
 }
 
-pub(crate) fn index_of(x: u64) -> usize
-    ensures { result ≡ x }
-{
-    x as usize
-}
-
-pub(crate) fn word_of(x: usize) -> u64
-    ensures { result ≡ x }
-{
-    x as u64
-}
-
 // How many slots, and how many buckets, the words have.
 pub(crate) fn slot_count(cache: &[u64]) -> usize
     ensures { result ≡ slots_in cache.now }
 {
-    let n = cache.len();
-    if n < 2 {
-        return 0;
-    }
-    (n - 2) / 7
-}
-
-fn get_row(s: &[u64], p: usize) -> Row
-    requires { p + 5 ≤ length s.now }
-    ensures { result ≡ row_at s.now p }
-{
-    Row {
-        id: Id {
-            a: s[p],
-            b: s[p + 1],
-            c: s[p + 2],
-            d: s[p + 3],
-        },
-        since: s[p + 4],
-    }
-}
-
-fn put_row(s: &mut [u64], p: usize, x: Row)
-    requires { Five p (length s.old) }
-    ensures { s.new ≡ stored s.old p (row_words x) }
-{
-    let id = x.id;
-    s[p] = id.a;
-    s[p + 1] = id.b;
-    s[p + 2] = id.c;
-    s[p + 3] = id.d;
-    s[p + 4] = x.since;
+    cache.len().saturating_sub(WINDOW_WORDS) / SLOT_WORDS
 }
 
 // The id in slot `i`.
@@ -70,7 +37,7 @@ pub(crate) fn row_id(cache: &[u64], i: usize) -> Id
     requires { i < slots_in cache.now }
     ensures { id_of result ≡ (slot_at cache.now i).id }
 {
-    load_id(cache, i * 7)
+    get_id(cache, i * SLOT_WORDS)
 }
 
 // The time in slot `i`.
@@ -78,7 +45,7 @@ pub(crate) fn row_since(cache: &[u64], i: usize) -> u64
     requires { i < slots_in cache.now }
     ensures { result ≡ (slot_at cache.now i).since }
 {
-    cache[i * 7 + 4]
+    cache[i * SLOT_WORDS + SINCE]
 }
 
 // The row in slot `i`.
@@ -86,7 +53,10 @@ pub(crate) fn load_row(cache: &[u64], i: usize) -> Row
     requires { i < slots_in cache.now }
     ensures { held_of result ≡ slot_at cache.now i }
 {
-    get_row(cache, i * 7)
+    Row {
+        id: row_id(cache, i),
+        since: row_since(cache, i),
+    }
 }
 
 // Writes the row of slot `i`. The index's words stay as they are.
@@ -94,7 +64,8 @@ pub(crate) fn store_row(cache: &mut [u64], i: usize, x: Row)
     requires { i < slots_in cache.old }
     ensures { cache.new ≡ stored cache.old (i * 7) (row_words x) }
 {
-    put_row(cache, i * 7, x);
+    put_id(cache, i * SLOT_WORDS, x.id);
+    cache[i * SLOT_WORDS + SINCE] = x.since;
 }
 
 // The first slot of the window of n rows. The word may be anything, in words that no start left; a window of no rows starts at the front.
@@ -106,7 +77,7 @@ pub(crate) fn first_slot(cache: &[u64], n: usize) -> usize
         return 0;
     }
     let slots = slot_count(cache);
-    smaller(index_of(cache[slots * 7]), slots - n)
+    (cache[slots * SLOT_WORDS] as usize).min(slots - n)
 }
 
 // The window starts at slot `f`.
@@ -115,5 +86,5 @@ pub(crate) fn put_first(cache: &mut [u64], f: usize)
     ensures { cache.new ≡ set cache.old (slots_in cache.old * 7) f }
 {
     let slots = slot_count(cache);
-    cache[slots * 7] = word_of(f);
+    cache[slots * SLOT_WORDS] = f as u64;
 }

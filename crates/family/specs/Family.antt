@@ -1,10 +1,10 @@
 -- Credits to parents on the pool's tables (document 01, "Credits to parents"): "After a submission is inserted, `propagate_family_weight` pushes
 -- its inputs' producers in input order, pops the last, adds the child's base (capped at 2^64−1), pushes that parent's producers likewise. At most
 -- 500 visits". The walk reads the box records alone, so its path is that of `walked`, and the credits are granted along it.
+use Rattle.std.specs.Prelude.{None}
 use Rattle.std.specs.Prelude.{ℕ, ◌≡◌, refl, List, [], ◌∷◌, map}
 use Rattle.words.specs.Sums.{cap}
 use Rattle.entries.specs.Entries.{ahead}
-use Rattle.entries.specs.declared.fields.ValidationCost.TheVariants.{Unmeasured}
 use Rattle.boxes.specs.Records.{parents}
 use Rattle.pool.specs.Pool.{Tables, insert_tx, credits}
 use Rattle.pool.specs.Ok.{Ok, ok-credits}
@@ -29,7 +29,7 @@ seen t = map (λ e. record { id = e.id; weight = e.weight }) t.entries
 
 abbrev tx : ℕ → ℕ → List ℕ → List ℕ → Tables → Tables
 tx k w ins outs t =
-    insert_tx (record { id = k; weight = w; base = w; size = 0; cost = 0; validation_cost = Unmeasured; created = 0; last_checked = 0; height_key = 0; inputs = 0 }) ins outs t
+    insert_tx (record { id = k; weight = w; base = w; size = 0; cost = 0; validation_cost = None; created = 0; last_checked = 0; height_key = 0; inputs = 0 }) ins outs t
 
 abbrev none : Tables
 none = record { entries = []; boxes = [] }

@@ -1,11 +1,10 @@
--- What the walk's functions leave: words of the entries before and after, words of the frames before and after, over the slots rs of the box records.
-use Rattle.std.specs.Prelude.{ℕ, ◌+◌, ◌-◌, ◌≤◌, ◌<◌, ◌≡◌, length, set}
-use Rattle.std.proofs.Common.{sym, ◌∙◌, arith}
+-- What the walk's functions leave: words of the entries before and after, the frames before and after, over the slots rs of the box records.
+use Rattle.std.specs.Prelude.{Option, Some, None, ℕ, ◌+◌, ◌-◌, ◌≤◌, ◌<◌, ◌≡◌, length, slice_index_or, slice_set}
+use Rattle.std.proofs.Common.{sym, ◌∙◌, arith, length-set}
 use Rattle.std.proofs.Math.Path.{ap}
 use Rattle.std.proofs.Math.Bool.{true}
 use mathlib.Core.List.{List, [], ◌∷◌, ◌++◌, reverse_aux}
 use Rattle.words.specs.Lists.{flat}
-use Rattle.words.specs.Tables.{of-suc, of_none, put-end}
 use Rattle.words.specs.Ids.{id_of}
 use Rattle.words.specs.declared.ids.Id.{Id}
 use Rattle.pool_types.specs.declared.Counts.{Counts}
@@ -16,17 +15,16 @@ use Rattle.boxes.specs.Records.{BoxRec, index, lookup, parents}
 use Rattle.boxes.specs.Layout.{boxes_of, all_rows, rows_bound, index-rows, inputs-rows}
 use Rattle.indexes.specs.Parents.{links_of, last_parent, lookup-one, last_none, last-push}
 use Rattle.indexes.specs.declared.inputs.Parent.{Parent}
-use Rattle.indexes.specs.declared.inputs.Parent.TheVariants.{Of, NoParent}
 use Rattle.pool.specs.Pool.{PoolFits, PoolKept, Left, tables_of, credits}
-use Rattle.family.specs.Frames.{Todo, todo_of, frame_at, frames_of, frames, FramesOk, ok-fewer, ok-still}
+use Rattle.family.specs.Frames.{Todo, todo_of, frames_of, next-frame, put-frame}
 use Rattle.family.specs.Chains.{walked}
 use Rattle.family.specs.Turns.{todo, whole, rest, rest_all, rest-none, rest-pop, rest-visit}
 use Rattle.family.specs.Family.{propagated}
 use Rattle.family.specs.declared.Progress.{Progress}
-use Rattle.family.specs.declared.frames.Frame.{Frame}
+use Rattle.family.specs.declared.Frame.{Frame}
 
 -- parent p was credited and has its frame, of the first m slots, on top of the frame of the child
-pub record Visited (e e' fs fs' : List ℕ) (m n depth c p : ℕ) (child : Todo) : Type 0 where
+pub record Visited (e e' : List ℕ) (fs fs' : List Frame) (m n depth c p : ℕ) (child : Todo) : Type 0 where
   pub kept : EntriesKept e' n
   pub rows : entries_of e' n ≡ credit c p (entries_of e n)
   pub frames : frames_of fs' (depth + 1) ≡ (frames_of fs (depth - 1) ++ (child ∷ [])) ++ (whole m p ∷ [])
@@ -37,7 +35,7 @@ pub record Nearer (w w' : Progress) : Type 0 where
   pub less : w'.budget + w'.budget + w'.depth < w.budget + w.budget + w.depth
 
 -- .. and what is left of the walk is the same
-pub record Turned (e e' fs fs' : List ℕ) (rs : List BoxRec) (n c : ℕ) (w w' : Progress) : Type 0 where
+pub record Turned (e e' : List ℕ) (fs fs' : List Frame) (rs : List BoxRec) (n c : ℕ) (w w' : Progress) : Type 0 where
   pub kept : EntriesKept e' n
   pub same : rest rs c w'.budget (frames_of fs' w'.depth) (entries_of e' n) ≡ rest rs c w.budget (frames_of fs w.depth) (entries_of e n)
 
@@ -49,29 +47,31 @@ unfolding todo_of
 opened k m bound e = ap (λ (m : ℕ). record { id = id_of k; bound = m }) e
 
 module _ (m n c : ℕ) where
-  pub visited : (e e' fs fs₁ fs' : List ℕ) (depth : ℕ) (child : Todo) (p : Id) (bound : ℕ) → 0 < depth → Rows e e' n (credit c (id_of p) (entries_of e n))
-      → ((i : ℕ) → frames_of fs₁ i ≡ set (frames_of fs i) (depth - 1) child) → bound ≡ m
-      → ((i : ℕ) → frames_of fs' i ≡ set (frames_of fs₁ i) depth (todo_of (record { id = p; bound = bound }))) → Visited e e' fs fs' m n depth c (id_of p) child
-  visited e e' fs fs₁ fs' depth child p bound h q s₁ l s₂ =
+  pub visited : (e e' : List ℕ) (fs : List Frame) (depth : ℕ) (child : Frame) (p : Id) (bound : ℕ) → 0 < depth → depth < length fs → Rows e e' n (credit c (id_of p) (entries_of e n)) → bound ≡ m
+      → Visited e e' fs (slice_set (slice_set fs (depth - 1) child) depth (record { id = p; bound = bound })) m n depth c (id_of p) (todo_of child)
+  visited e e' fs depth child p bound h g q l =
       let d : depth ≡ depth - 1 + 1 = omega arith in
+      let below = slice_set fs (depth - 1) child in
       record {
         kept = q.kept;
         rows = q.rows;
-        frames = put-end frames fs₁ fs' depth _ s₂ ∙ rw (opened p m bound l) (ap (λ (ts : List Todo). ts ++ (whole m (id_of p) ∷ [])) (ap (frames_of fs₁) d ∙ put-end frames fs fs₁ (depth - 1) child s₁));
+        frames =
+            put-frame below depth _ (omega (arith, length-set fs (depth - 1) child))
+            ∙ rw (opened p m bound l) (ap (λ (ts : List Todo). ts ++ (whole m (id_of p) ∷ [])) (ap (frames_of below) d ∙ put-frame fs (depth - 1) child (omega arith)));
       }
 
 -- ---- a turn: with no visit left, with no parent left in the top frame, and with one that was visited
 
 module _ (rs : List BoxRec) (n c : ℕ) where
-  pub stopped : (e fs : List ℕ) (w : Progress) → 0 < w.depth → w.budget ≡ 0 → EntriesKept e n → Turned e e fs fs rs n c w (record { depth = 0; budget = 0 })
+  pub stopped : (e : List ℕ) (fs : List Frame) (w : Progress) → 0 < w.depth → w.budget ≡ 0 → EntriesKept e n → Turned e e fs fs rs n c w (record { depth = 0; budget = 0 })
   stopped e fs w h z o = record { kept = o; same = rw z }
 
-  module _ (e fs : List ℕ) (w : Progress) (h : 0 < w.depth) (top : Frame) (at : todo_of top ≡ frame_at fs (w.depth - 1)) (r : Parent)
+  module _ (e : List ℕ) (fs : List Frame) (w : Progress) (h : 0 < w.depth) (g : w.depth ≤ length fs) (d : Frame) (r : Option Parent) (top : Frame) (at : top ≡ slice_index_or fs (w.depth - 1) d)
       (found : links_of r ≡ last_parent (lookup (index true rs)) (id_of top.id) rs top.bound) where
     split : frames_of fs w.depth ≡ frames_of fs (w.depth - 1) ++ (todo_of top ∷ [])
-    split = let d : w.depth ≡ w.depth - 1 + 1 = omega arith in ap (frames_of fs) d ∙ of-suc frames fs (w.depth - 1) ∙ rw at
+    split = let z : w.depth ≡ w.depth - 1 + 1 = omega arith in ap (frames_of fs) z ∙ next-frame fs (w.depth - 1) d (omega arith) ∙ rw at
 
-    pub popped : r ≡ NoParent → EntriesKept e n → Turned e e fs fs rs n c w (record { depth = w.depth - 1; budget = w.budget })
+    pub popped : r ≡ None → EntriesKept e n → Turned e e fs fs rs n c w (record { depth = w.depth - 1; budget = w.budget })
     unfolding todo_of
     popped q o =
         record {
@@ -82,47 +82,42 @@ module _ (rs : List BoxRec) (n c : ℕ) where
         none : todo rs (todo_of top) ≡ []
         none = last_none (lookup (index true rs)) (lookup-one (index true rs)) (id_of top.id) rs top.bound (sym found ∙ ap links_of q)
 
-    pub went_up : (m : ℕ) → length rs ≤ m → (p : Id) (at : ℕ) → r ≡ Of p at → (w.budget ≡ 0 → ⊥) → (e' fs' : List ℕ) → Visited e e' fs fs' m n w.depth c (id_of p) (todo_of (record { id = top.id; bound = at }))
+    pub went_up : (m : ℕ) → length rs ≤ m → (p : Parent) → r ≡ Some p → (w.budget ≡ 0 → ⊥) → (e' : List ℕ) (fs' : List Frame) → Visited e e' fs fs' m n w.depth c (id_of p.id) (todo_of (record { id = top.id; bound = p.slot }))
         → Turned e e' fs fs' rs n c w (record { depth = w.depth + 1; budget = w.budget - 1 })
     unfolding todo_of
-    went_up m l p at q z e' fs' v =
+    went_up m l p q z e' fs' v =
         record {
           kept = v.kept;
           same =
               rw (v.frames, v.rows, split)
-              (rest-visit rs c m l w.budget (frames_of fs (w.depth - 1)) (todo_of top) (todo_of (record { id = top.id; bound = at })) (id_of p) (entries_of e n) (omega (arith, z))
-              (λ st. last-push (lookup (index true rs)) (lookup-one (index true rs)) (id_of top.id) rs top.bound (id_of p) at st (sym found ∙ ap links_of q)));
+              (rest-visit rs c m l w.budget (frames_of fs (w.depth - 1)) (todo_of top) (todo_of (record { id = top.id; bound = p.slot })) (id_of p.id) (entries_of e n) (omega (arith, z))
+              (λ st. last-push (lookup (index true rs)) (lookup-one (index true rs)) (id_of top.id) rs top.bound (id_of p.id) p.slot st (sym found ∙ ap links_of q)));
         }
 
 -- ---- the whole walk, from w₀ to w
 
-pub record Walking (e₀ e fs₀ fs : List ℕ) (rs : List BoxRec) (n c : ℕ) (w₀ w : Progress) : Type 0 where
+pub record Walking (e₀ e : List ℕ) (fs₀ fs : List Frame) (rs : List BoxRec) (n c : ℕ) (w₀ w : Progress) : Type 0 where
   pub kept : EntriesKept e n
   pub same : rest rs c w.budget (frames_of fs w.depth) (entries_of e n) ≡ rest rs c w₀.budget (frames_of fs₀ w₀.depth) (entries_of e₀ n)
 
-module _ (fs fs' : List ℕ) (w w' : Progress) where
-  pub room-on : FramesOk fs (w.depth + w.budget) → length fs' ≡ length fs → Nearer w w' → FramesOk fs' (w'.depth + w'.budget)
-  room-on f l t = ok-still fs fs' (w'.depth + w'.budget) (ok-fewer fs (w'.depth + w'.budget) (w.depth + w.budget) f t.room) l
-
-module _ (e₀ e fs₀ fs : List ℕ) (rs : List BoxRec) (n c : ℕ) (w₀ w : Progress) (k : Walking e₀ e fs₀ fs rs n c w₀ w) where
-  pub walk-on : (e' fs' : List ℕ) (w' : Progress) → Turned e e' fs fs' rs n c w w' → Walking e₀ e' fs₀ fs' rs n c w₀ w'
+module _ (e₀ e : List ℕ) (fs₀ fs : List Frame) (rs : List BoxRec) (n c : ℕ) (w₀ w : Progress) (k : Walking e₀ e fs₀ fs rs n c w₀ w) where
+  pub walk-on : (e' : List ℕ) (fs' : List Frame) (w' : Progress) → Turned e e' fs fs' rs n c w w' → Walking e₀ e' fs₀ fs' rs n c w₀ w'
   walk-on e' fs' w' t = record { kept = t.kept; same = t.same ∙ k.same }
 
   walk_end : w.depth ≤ 0 → entries_of e n ≡ rest rs c w₀.budget (frames_of fs₀ w₀.depth) (entries_of e₀ n)
   walk_end h =
       let z : w.depth ≡ 0 = omega arith in
-      sym (rest-none rs c w.budget (entries_of e n)) ∙ ap (λ (ts : List Todo). rest rs c w.budget ts (entries_of e n)) (sym (ap (frames_of fs) z ∙ of_none frames fs)) ∙ k.same
+      sym (rest-none rs c w.budget (entries_of e n)) ∙ ap (λ (ts : List Todo). rest rs c w.budget ts (entries_of e n)) (sym (ap (frames_of fs) z)) ∙ k.same
 
 -- those that are gone are nobody's parents
 parents-rows : (l : List ℕ) (n : ℕ) → parents (all_rows l n) ≡ parents (boxes_of l n)
 parents-rows l n = λ i k. flat (lookup (index-rows true l n i)) (inputs-rows k l n i)
 
 -- it began with the frame of k alone and ended with none
-pub walked_whole : (e e' b fs fs₀ fs' : List ℕ) (x : Counts) (k : Id) (bound m c : ℕ) (w : Progress) → PoolFits e b x → length e' ≡ length e → bound ≡ length b
-    → ((i : ℕ) → frames_of fs₀ i ≡ set (frames_of fs i) 0 (todo_of (record { id = k; bound = bound })))
-    → w.depth ≤ 0 → PoolKept e b x → Walking e e' fs₀ fs' (all_rows b x.records) x.pooled c (record { depth = 1; budget = m }) w
+pub walked_whole : (e e' b : List ℕ) (fs fs' : List Frame) (x : Counts) (k : Id) (bound m c : ℕ) (w : Progress) → PoolFits e b x → length e' ≡ length e → bound ≡ length b → 0 < length fs
+    → w.depth ≤ 0 → PoolKept e b x → Walking e e' (slice_set fs 0 (record { id = k; bound = bound })) fs' (all_rows b x.records) x.pooled c (record { depth = 1; budget = m }) w
     → Left e' b x (propagated m c (id_of k) (tables_of e b x))
-walked_whole e e' b fs fs₀ fs' x k bound m c w f l q s h p g =
+walked_whole e e' b fs fs' x k bound m c w f l q s h p g =
     record {
       fits = record { entries = entries-still e e' n n f.entries l (omega arith); boxes = f.boxes };
       kept = record { entries = g.kept; boxes = p.boxes };
@@ -138,5 +133,8 @@ walked_whole e e' b fs fs₀ fs' x k bound m c w f l q s h p g =
     few : length rs ≤ length b
     few = rows_bound b x.records f.boxes
 
+    fs₀ : List Frame
+    fs₀ = slice_set fs 0 (record { id = k; bound = bound })
+
     first : frames_of fs₀ 1 ≡ whole (length b) (id_of k) ∷ []
-    first = put-end frames fs fs₀ 0 _ s ∙ rw (of_none frames fs, opened k (length b) bound q)
+    first = put-frame fs 0 _ s ∙ rw (opened k (length b) bound q)

@@ -2,28 +2,42 @@
 // others, once for every chain of spends.
 #![tactic(auto)]
 
-ghost use Rattle.std.specs.Prelude.{◌+◌, ◌<◌, length};
+ghost use Rattle.std.specs.Prelude.{◌+◌, ◌≤◌, ◌<◌, length};
 ghost use Rattle.words.specs.Ids.{id_of};
 ghost use Rattle.entries.specs.Layout.{EntriesKept};
 ghost use Rattle.boxes.specs.Layout.{all_rows};
 ghost use Rattle.pool.specs.Pool.{PoolFits, PoolKept, Left, tables_of};
-ghost use Rattle.family.specs.Frames.{FramesOk, todo_of};
+ghost use Rattle.family.specs.Frames.{todo_of};
 ghost use Rattle.family.specs.Steps.{Visited, Nearer, Turned};
 ghost use Rattle.family.specs.Family.{propagated};
 
-use crate::frames::{FRAME_WORDS, Frame, load_frame, store_frame};
 use entries::table::credit_entry;
-use indexes::inputs::{Parent, last_parent};
+use indexes::inputs::last_parent;
 use pool_types::Counts;
 use words::ids::Id;
-
-pub mod frames;
 
 // At most so many parents are visited.
 const MAX_PARENT_SCAN_DEPTH: usize = 500;
 
-// Words for one frame more than there are visits.
-const STACK_WORDS: usize = (MAX_PARENT_SCAN_DEPTH + 1) * FRAME_WORDS;
+// A frame of the walk's stack: of a transaction's inputs, those in so many of the first slots are still to be looked at.
+#[derive(Clone, Copy)]
+struct Frame {
+    id: Id,
+    bound: usize,
+}
+
+// One frame more than there are visits.
+const STACK: usize = MAX_PARENT_SCAN_DEPTH + 1;
+
+const EMPTY: Frame = Frame {
+    id: Id {
+        a: 0,
+        b: 0,
+        c: 0,
+        d: 0,
+    },
+    bound: 0,
+};
 
 // How many frames are open, and how many visits are left.
 #[derive(Clone, Copy)]
@@ -37,20 +51,20 @@ fn visit(
     entries: &mut [u64],
     boxes: &[u64],
     counts: Counts,
-    frames: &mut [u64],
+    frames: &mut [Frame],
     depth: usize,
     child: Frame,
     parent: Id,
     amount: u64,
 )
     requires pool_fits { PoolFits entries.old boxes.now counts }
-    requires depth_nonzero { (0 < depth) × FramesOk frames.old (depth + 1) }
+    requires depth_nonzero { (0 < depth) × (depth + 1 ≤ length frames.old) }
     ensures { EntriesKept entries.old counts.pooled → Visited entries.old entries.new frames.old frames.new (length boxes.now) counts.pooled depth amount (id_of parent) (todo_of child) }
 {
     credit_entry(entries, counts.pooled, parent, amount);
-    store_frame(frames, depth - 1, child);
     let bound = boxes.len();
-    store_frame(frames, depth, Frame { id: parent, bound });
+    frames[depth - 1] = child;
+    frames[depth] = Frame { id: parent, bound };
 }
 
 // Looks at the top frame: visits the last parent that its inputs have left, or closes it where there is none. With no visit left the walk ends.
@@ -58,37 +72,39 @@ fn turn(
     entries: &mut [u64],
     boxes: &[u64],
     counts: Counts,
-    frames: &mut [u64],
+    frames: &mut [Frame],
     w: Progress,
     amount: u64,
 ) -> Progress
     requires pool_fits { PoolFits entries.old boxes.now counts }
-    requires depth_nonzero { (0 < w.depth) × FramesOk frames.old (w.depth + w.budget) }
+    requires depth_nonzero { (0 < w.depth) × (w.depth + w.budget ≤ length frames.old) }
     ensures nearer { Nearer w result }
     ensures turned { PoolKept entries.old boxes.now counts → Turned entries.old entries.new frames.old frames.new (all_rows boxes.now counts.records) counts.pooled amount w result }
 {
-    let top = load_frame(frames, w.depth - 1);
+    let top = frames[w.depth - 1];
     match last_parent(boxes, counts.records, top.id, top.bound) {
-        Parent::NoParent => Progress {
+        None => Progress {
             depth: w.depth - 1,
             budget: w.budget,
         },
-        Parent::Of(parent, bound) => {
+        Some(parent) => {
             if w.budget == 0 {
                 return Progress {
                     depth: 0,
                     budget: 0,
                 };
             }
-            let id = top.id;
             visit(
                 entries,
                 boxes,
                 counts,
                 frames,
                 w.depth,
-                Frame { id, bound },
-                parent,
+                Frame {
+                    id: top.id,
+                    bound: parent.slot,
+                },
+                parent.id,
                 amount,
             );
             Progress {
@@ -104,21 +120,22 @@ fn walk(
     entries: &mut [u64],
     boxes: &[u64],
     counts: Counts,
-    frames: &mut [u64],
+    frames: &mut [Frame],
     id: Id,
     amount: u64,
     cap: usize,
 )
     requires pool_fits { PoolFits entries.old boxes.now counts }
-    requires frames_ok { FramesOk frames.old (1 + cap) }
+    requires frames_ok { 1 + cap ≤ length frames.old }
     ensures { PoolKept entries.old boxes.now counts → Left entries.new boxes.now counts (propagated cap amount (id_of id) (tables_of entries.old boxes.now counts)) }
 {
     let bound = boxes.len();
-    store_frame(frames, 0, Frame { id, bound });
+    frames[0] = Frame { id, bound };
     let mut w = Progress {
         depth: 1,
         budget: cap,
     };
+    // until the stack is empty: no index is counted
     while 0 < w.depth {
         w = turn(entries, boxes, counts, frames, w, amount);
     }
@@ -135,7 +152,7 @@ pub fn propagate_family_weight(
     requires { PoolFits entries.old boxes.now counts }
     ensures { PoolKept entries.old boxes.now counts → Left entries.new boxes.now counts (propagated 500 amount (id_of id) (tables_of entries.old boxes.now counts)) }
 {
-    let mut frames = [0u64; STACK_WORDS];
+    let mut frames = [EMPTY; STACK];
     walk(
         entries,
         boxes,

@@ -3,7 +3,7 @@
 #![tactic(auto)]
 
 use boxes::lists::count_of;
-use entries::fields::{PoolEntry, ValidationCost, id_at, weight_at};
+use entries::fields::{PoolEntry, id_at, weight_at};
 use family::propagate_family_weight;
 use pool::{fits, insert, room_for};
 use pool_types::Counts;
@@ -26,7 +26,7 @@ fn entry_of(id: u64, base: u64) -> PoolEntry {
         base,
         size: 0,
         cost: 0,
-        validation_cost: ValidationCost::Unmeasured,
+        validation_cost: None,
         created: 0,
         last_checked: 0,
         height_key: 0,
@@ -107,10 +107,8 @@ pub fn show(
 }
 
 pub fn show_all(rt: &impl Print, entries: &[u64], boxes: &[u64], counts: Counts) -> io::Result<()> {
-    let mut rank = 0;
-    while rank < counts.pooled {
+    for rank in 0..counts.pooled {
         show(rt, entries, boxes, counts, rank)?;
-        rank += 1;
     }
     println!(rt; "")
 }

@@ -1,82 +1,53 @@
 -- What the fee queries go by: tests decided one by one, and what a turn of each loop does, over plain variables.
-use Prim.Native.Nat.{ℕ, suc, ◌+◌, ◌-◌, ◌*◌, ◌/◌, ◌≤◌, ◌<◌, min}
+use Prim.Native.Nat.{ℕ, ◌+◌, ◌-◌, ◌*◌, ◌/◌, ◌≤◌, ◌<◌, min}
 use mathlib.Core.Path.{◌≡◌, refl, sym, ap, ◌∙◌}
 use mathlib.Core.Bool.{Bool, true, false}
 use mathlib.Core.List.{List, [], ◌∷◌, ◌++◌}
-use native.Mathlib.Nat.{add-zero, le-div_iff_mul-le}
+use native.Mathlib.Nat.{add-zero}
 use native.Mathlib.Omega.{arith}
 use lib.Dec.{ltb}
-use lib.ListN.{length, get_or, drop, set, replicate, length-set, length-replicate, replicate-append-replicate}
-use lib.Seq.{drop-set-lt, drop-drop}
-use borrow.Author.Tests.{le-leb, lt-leb, le-ltb, lt-ltb, eq-eqb, ne_eqb}
+use lib.ListN.{length, get_or, drop, set, replicate, length-set, length-replicate, get_or-append}
+use lib.Seq.{drop-set-lt}
+use Rattle.std.specs.Prelude.{Ok, Err, cond, count_by}
+use Rattle.std.specs.List.{range_with_len}
+use Rattle.std.proofs.lemmas.List.{length-append, length-drop, get_or-replicate, ext_get_or}
+use Rattle.std.proofs.lemmas.List.Folds.{fold-map}
+use Rattle.std.proofs.lemmas.List.FromFn.{fill_by_all}
+use Rattle.std.proofs.lemmas.List.Recursion.{is_count_by}
+use Rattle.std.proofs.lemmas.Slice.{drop-append-drop}
+use borrow.Author.Tests.{le-leb, lt-leb, le-ltb, lt-ltb, ne_eqb}
 use Rattle.words.specs.Lists.{pick}
 use Rattle.words.specs.Sums.{quotient_of}
 use Rattle.words.specs.Rows.{rec_at, blk-lit, recs-store}
-use Rattle.words.specs.Tables.{put-end, of_none, of-suc}
+use Rattle.words.specs.Tables.{of_none, of-suc}
 use Rattle.pool_types.specs.declared.Mempool.{Mempool}
-use Rattle.pool_types.specs.Outcomes.{refused, number, wrote, listed_of}
-use Rattle.pool_types.specs.declared.ListOutcome.TheVariants.{Listed, NotListed}
-use Rattle.stats.specs.Stats.{fee_in, wait_in}
+use Rattle.pool_types.specs.Outcomes.{number, wrote, listed_of}
+use Rattle.pool_types.specs.declared.Refusal.{Refusal}
+use Rattle.pool_types.specs.Refusals.{refusal_number}
+use Rattle.stats.specs.Stats.{wait_in}
 use Rattle.entries.specs.Entries.{Entry}
 use Rattle.entries.specs.Layout.{entry_at, entries_of, entries_room, entries}
-use Rattle.fees.specs.Fees.{at_least, recommended_in, above, expected_in, Bin, bin, no_bin, bin_of, more, add_to, binned, Histogram, histogram, no_histogram, histogram_of}
-use Rattle.fees.specs.Bins.{Bounds, bin_dec, bin_at, bins_of, bins, Put, Laid, Drawn}
-
--- ---- a fee for a wait
-
-module _ (counts totals : List ℕ) (least minutes size : ℕ) where
-  pub fee-refused : 98304 < size → refused 3 0 ≡ recommended_in counts totals least minutes size
-  unfolding recommended_in
-  fee-refused h = rw (lt-ltb _ _ h)
-
-  pub fee-given : (r : ℕ) → size ≤ 98304 → r ≡ at_least least (fee_in counts totals minutes size) → number r ≡ recommended_in counts totals least minutes size
-  unfolding recommended_in
-  fee-given r h e = rw (le-ltb _ _ h, e)
+use Rattle.fees.specs.Fees.{above, expected_in, Bin, bin, no_bin, bin_of, more, add_to, binned, Histogram, histogram, no_histogram, histogram_of}
+use Rattle.fees.specs.Bins.{bin_dec, bin_at, bins_of, bins, Put, Laid, Drawn}
 
 -- ---- a wait for a fee
 
-above-append : (w : ℕ) (a b : List Entry) → above w (a ++ b) ≡ above w a + above w b
-above-append w [] b = omega arith
-above-append w (e ∷ a) b = omega (arith, above-append w a b)
-
-above-few : (w : ℕ) (es : List Entry) → above w es ≤ length es
-above-few w [] = omega arith
-above-few w (e ∷ es) = go (ltb w e.weight) (above-few w es)
+above-count : (w : ℕ) (es : List Entry) → above w es ≡ count_by (λ x. ltb w x.weight) es
+above-count w es = is_count_by (above w) (λ x. ltb w x.weight) refl (λ x xs. step (ltb w x.weight) (above w xs)) es
   where
-    go : (t : Bool) → above w es ≤ length es → pick t 1 0 + above w es ≤ suc (length es)
-    go true h = omega arith
-    go false h = omega arith
+    step : (t : Bool) (n : ℕ) → pick t 1 0 + n ≡ cond t (1 + n) n
+    step true n = refl
+    step false n = omega arith
 
--- of the first i entries n are above a weight
-pub record Counted (e : List ℕ) (w n i : ℕ) : Type 0 where
-  pub count : n ≡ above w (entries_of e i)
-
-pub counted_none : (e : List ℕ) (w : ℕ) → Counted e w 0 0
-counted_none e w = record { count = rw (of_none entries e) }
-
-pub counted-more : (e : List ℕ) (w n i k : ℕ) → Counted e w n i → k ≡ pick (ltb w (entry_at e i).weight) 1 0 → Counted e w (n + k) (i + 1)
-counted-more e w n i k c h = record { count = rw (of-suc entries e i) (omega (arith, above-append w (entries_of e i) (entry_at e i ∷ []), c.count, h)) }
-
-pub counted-few : (e : List ℕ) (w n i : ℕ) → Counted e w n i → n ≤ i
-counted-few e w n i c = omega (arith, above-few w (entries_of e i), entries.len e i, c.count)
-
-pub counted-all : (e : List ℕ) (w n i m : ℕ) → i ≡ m → Counted e w n i → n ≡ above w (entries_of e m)
-counted-all e w n i m q c = rw (← q) c.count
+-- those above a weight, counted by their places
+pub above-places : (w : ℕ) (e : List ℕ) (n : ℕ) → count_by (λ i. ltb w (entry_at e i).weight) (range_with_len 0 n) ≡ above w (entries_of e n)
+above-places w e n =
+    sym (above-count w (entries_of e n)
+    ∙ ap (count_by (λ x. ltb w x.weight)) (fill_by_all (entry_at e) (entries_of e n) n (entry_at e 0) (entries.len e n) (λ k h. entries.get e n k (entry_at e 0) h))
+    ∙ fold-map (λ a x. a + cond (ltb w x.weight) 1 0) (entry_at e) 0 (range_with_len 0 n))
 
 module _ (e : List ℕ) (pooled start taken time fee size : ℕ) where
-  pub wait-entries : entries_room e < pooled → refused 1 0 ≡ expected_in e pooled start taken time fee size
-  unfolding expected_in
-  wait-entries h = rw (lt-leb _ _ h)
-
   module _ (h : pooled ≤ entries_room e) where
-    pub wait-none : size ≡ 0 → refused 3 0 ≡ expected_in e pooled start taken time fee size
-    unfolding expected_in
-    wait-none z = rw (le-leb _ _ h, eq-eqb size 0 z)
-
-    pub wait-large : 0 < size → 98304 < size → refused 3 0 ≡ expected_in e pooled start taken time fee size
-    unfolding expected_in
-    wait-large p g = let z : size ≡ 0 → ⊥ = omega arith in rw (le-leb _ _ h, ne_eqb size 0 z, lt-ltb _ _ g)
-
     pub wait-given : 0 < size → size ≤ 98304 → (w n r : ℕ) → w ≡ quotient_of (fee * 1024) size → n ≡ above w (entries_of e pooled) → r ≡ wait_in 60000 start taken time n
         → number r ≡ expected_in e pooled start taken time fee size
     unfolding expected_in
@@ -101,44 +72,44 @@ pub total-word : (l : List ℕ) (i : ℕ) → get_or l (i * 2 + 1) 0 ≡ (bin_at
 unfolding bin_at rec_at bin_dec
 total-word l i = simp (blk-lit 2 l i, tt {0})
 
--- ---- bins cleared one by one
+-- ---- bins cleared
 
 pub clear_none : (l : List ℕ) → Laid l l 0 (replicate 0 no_bin)
 clear_none l = record { kept = refl; bins = of_none bins l; rest = refl }
 
-pub clear-more : (l₀ l m : List ℕ) (i : ℕ) → Laid l₀ l i (replicate i no_bin) → Put l m i no_bin → Laid l₀ m (i + 1) (replicate (i + 1) no_bin)
-clear-more l₀ l m i w p =
-    record {
-      kept = p.kept ∙ w.kept;
-      bins = put-end bins l m i no_bin p.bins ∙ rw w.bins (replicate-append-replicate i 1 no_bin);
-      rest = p.rest (i + 1) (omega arith) ∙ later w.rest;
-    }
+-- the words of the first n bins are 0
+pub cleared : (l z : List ℕ) (n : ℕ) → n * 2 ≤ length l → z ≡ replicate (n * 2) 0 → Laid l (z ++ drop (n * 2) l) n (replicate n no_bin)
+cleared l z n h e = rw e (record { kept = kept; bins = bins'; rest = drop-append-drop (n * 2) l (replicate (n * 2) 0) (n * 2) (omega arith) len })
   where
-    later : drop (i * 2) l ≡ drop (i * 2) l₀ → drop ((i + 1) * 2) l ≡ drop ((i + 1) * 2) l₀
-    later q = let d : (i + 1) * 2 ≡ i * 2 + 2 = omega arith in rw (d, ← drop-drop 2 (i * 2) l, ← drop-drop 2 (i * 2) l₀, q)
+    m : List ℕ
+    m = replicate (n * 2) 0 ++ drop (n * 2) l
 
-pub clear-all : (l₀ l : List ℕ) (i n : ℕ) → i ≡ n → Laid l₀ l i (replicate i no_bin) → Laid l₀ l n (replicate n no_bin)
-clear-all l₀ l i n q w = rw q at w
+    len : length {A = ℕ} (replicate (n * 2) 0) ≡ n * 2
+    len = length-replicate {A = ℕ} (n * 2) 0
+
+    kept : length m ≡ length l
+    kept = length-append (replicate (n * 2) 0) (drop (n * 2) l) ∙ omega (arith, len, length-drop (n * 2) l, h)
+
+    zero : (k : ℕ) → k < n * 2 → get_or m k 0 ≡ 0
+    zero k b = get_or-append (replicate (n * 2) 0) (drop (n * 2) l) 0 k (omega (arith, b, len)) ∙ get_or-replicate {A = ℕ} (n * 2) k 0 0 b
+
+    empty : (i : ℕ) → i < n → bin_at m i ≡ no_bin
+    empty i b = λ k. bin ((sym (count_word m i) ∙ zero (i * 2) (omega arith)) k) ((sym (total-word m i) ∙ zero (i * 2 + 1) (omega arith)) k)
+
+    bins' : bins_of m n ≡ replicate n no_bin
+    bins' =
+        ext_get_or no_bin _ _ (bins.len m n ∙ sym (length-replicate n no_bin))
+        (λ i b. let c : i < n = omega (arith, b, bins.len m n) in bins.get m n i no_bin c ∙ empty i c ∙ sym (get_or-replicate n i no_bin no_bin c))
 
 -- ---- the bin of a wait
 
 module _ (bins longest wait : ℕ) where
-  pub bin-last : longest ≤ wait → (r : ℕ) → r ≡ bins → r ≡ bin_of bins longest wait
-  bin-last h r e = rw (le-ltb _ _ h) e
-
-  pub bin-within : (interval : ℕ) → Bounds bins longest interval → wait < longest → (r : ℕ) → r ≡ min (wait / interval) bins → r ≡ bin_of bins longest wait
-  bin-within interval b h r e = rw (lt-ltb _ _ h, ← b.is) e
-
   pub bin-most : bin_of bins longest wait ≤ bins
   bin-most = go (ltb wait longest)
     where
       go : (t : Bool) → pick t (min (wait / (longest / bins)) bins) bins ≤ bins
       go true = omega arith
       go false = omega arith
-
--- the interval is not 0
-pub some-interval : (bins longest interval : ℕ) → Bounds bins longest interval → 0 < interval
-some-interval bins longest interval b = rw b.is ((le-div_iff_mul-le b.some).1 (omega (arith, b.enough)))
 
 -- ---- entries counted one by one
 
@@ -175,9 +146,6 @@ module _ (size longest time : ℕ) where
         rest = p.rest ∙ w.rest;
       }
 
-  pub binned-all : (e l₀ l : List ℕ) (n i k : ℕ) (bs : List Bin) → i ≡ k → Laid l₀ l n (binned size longest time (entries_of e i) bs) → Laid l₀ l n (binned size longest time (entries_of e k) bs)
-  binned-all e l₀ l n i k bs q w = rw q at w
-
 -- ---- the histogram, test by test
 
 module _ (e : List ℕ) (st : Mempool) (words time size longest : ℕ) where
@@ -191,28 +159,20 @@ module _ (e : List ℕ) (st : Mempool) (words time size longest : ℕ) where
     histogram-short g = rw (le-leb _ _ h, lt-ltb _ _ g)
 
     module _ (g : size + 1 ≤ words / 2) where
-      pub histogram-no-bins : size ≡ 0 → histogram_of e st words time size longest ≡ no_histogram 11
-      unfolding histogram_of
-      histogram-no-bins z = rw (le-leb _ _ h, le-ltb _ _ g, eq-eqb size 0 z)
-
-      pub histogram-brief : 0 < size → longest < size → histogram_of e st words time size longest ≡ no_histogram 11
-      unfolding histogram_of
-      histogram-brief p b = let z : size ≡ 0 → ⊥ = omega arith in rw (le-leb _ _ h, le-ltb _ _ g, ne_eqb size 0 z, lt-ltb _ _ b)
-
       pub histogram-drawn : 0 < size → size ≤ longest
           → histogram_of e st words time size longest ≡ histogram (wrote (size + 1)) (binned size longest time (entries_of e st.counts.pooled) (replicate (size + 1) no_bin))
       unfolding histogram_of
       histogram-drawn p b = let z : size ≡ 0 → ⊥ = omega arith in rw (le-leb _ _ h, le-ltb _ _ g, ne_eqb size 0 z, le-ltb _ _ b)
 
-pub drawn-refused : (l : List ℕ) (n : ℕ) (h : Histogram) → h ≡ no_histogram n → Drawn l l (NotListed n) h
+pub drawn-refused : (l : List ℕ) (r : Refusal) (h : Histogram) → h ≡ no_histogram (refusal_number r) → Drawn l l (Err r) h
 unfolding listed_of
-drawn-refused l n h e = rw e (record { outcome = refl; answer = clear_none l })
+drawn-refused l r h e = rw e (record { outcome = refl; answer = clear_none l })
 
 -- bins cleared and then counted into
 pub drawn-listed : (e l m k : List ℕ) (time size longest n pooled : ℕ) (h : Histogram) → n ≡ size + 1
     → h ≡ histogram (wrote (size + 1)) (binned size longest time (entries_of e pooled) (replicate (size + 1) no_bin))
     → Laid l m n (replicate n no_bin) → Laid m k (size + 1) (binned size longest time (entries_of e pooled) (bins_of m (size + 1)))
-    → Drawn l k (Listed n) h
+    → Drawn l k (Ok n) h
 unfolding listed_of
 drawn-listed e l m k time size longest n pooled h q d a b =
     rw d (record { outcome = ap wrote q; answer = rw (length-binned size longest time (entries_of e pooled) (replicate (size + 1) no_bin), length-replicate) both })

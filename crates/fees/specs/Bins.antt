@@ -1,9 +1,9 @@
 -- Bins in an answer buffer: two words each, the count and the sum (docs/DECISIONS.md, D5), and what a call leaves in the buffer.
-use Rattle.std.specs.Prelude.{ℕ, ◌*◌, ◌/◌, ◌≤◌, ◌<◌, ◌≡◌, refl, List, [], ◌∷◌, length, get_or, drop, set}
+use Rattle.std.specs.Prelude.{ℕ, ◌*◌, ◌/◌, ◌≤◌, ◌<◌, ◌≡◌, refl, Result, List, [], ◌∷◌, length, get_or, drop, set}
 use Rattle.words.specs.Rows.{rec_at, recs, length-recs, get_or-recs, take-recs}
 use Rattle.words.specs.Tables.{Table}
 use Rattle.pool_types.specs.Outcomes.{listed_of}
-use Rattle.pool_types.specs.declared.ListOutcome.{ListOutcome}
+use Rattle.pool_types.specs.declared.Refusal.{Refusal}
 use Rattle.fees.specs.Fees.{Bin, bin, Histogram}
 
 -- there are bins, and the longest wait is divided into intervals for them
@@ -37,7 +37,7 @@ pub record Laid (l m : List ℕ) (n : ℕ) (bs : List Bin) : Type 0 where
   pub rest : drop (n * 2) m ≡ drop (n * 2) l
 
 -- what `pool_histogram_at` leaves: the histogram's bins from the first word on, every other word as it was
-pub record Drawn (l m : List ℕ) (o : ListOutcome) (h : Histogram) : Type 0 where
+pub record Drawn (l m : List ℕ) (o : Result ℕ Refusal) (h : Histogram) : Type 0 where
   pub outcome : listed_of o ≡ h.outcome
   pub answer : Laid l m (length h.bins) h.bins
 

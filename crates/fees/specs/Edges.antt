@@ -1,4 +1,5 @@
 -- The edges of the fee queries, by computation.
+use Rattle.std.specs.Prelude.{None}
 use Rattle.std.specs.Prelude.{ℕ, ◌≡◌, refl, false, [], ◌∷◌, set, replicate}
 use Rattle.words.specs.Sums.{cap}
 use Rattle.words.specs.Tables.{of_none}
@@ -9,7 +10,6 @@ use Rattle.stats.specs.Stats.{first_fee, fee_in}
 use Rattle.stats.specs.declared.FeeStats.{FeeStats}
 use Rattle.entries.specs.Entries.{Entry}
 use Rattle.entries.specs.Layout.{entries_room, entries}
-use Rattle.entries.specs.declared.fields.ValidationCost.TheVariants.{Unmeasured}
 use Rattle.fees.specs.Fees.{recommended, above, expected_wait, bin, no_bin, bin_of, binned, histogram, no_histogram, histogram_of}
 
 -- a state with this minimum fee and so many transactions pooled
@@ -53,7 +53,7 @@ fee-sizes = (refl, refl, refl)
 
 -- an entry of this weight and base that is pooled since then
 abbrev since : ℕ → ℕ → ℕ → Entry
-since w b created = record { id = 0; weight = w; base = b; size = 0; cost = 0; validation_cost = Unmeasured; created = created; last_checked = 0; height_key = 0; inputs = 0 }
+since w b created = record { id = 0; weight = w; base = b; size = 0; cost = 0; validation_cost = None; created = created; last_checked = 0; height_key = 0; inputs = 0 }
 
 -- one as heavy is not above
 heavier : (above 20 (since 21 0 0 ∷ since 20 0 0 ∷ since 19 0 0 ∷ []) ≡ 1) × (above cap (since cap 0 0 ∷ []) ≡ 0) × (above 0 [] ≡ 0)

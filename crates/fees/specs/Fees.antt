@@ -1,5 +1,6 @@
 -- The fee queries (document 01, "Fee and wait"; lib.rs): what each answers, as a function of what the store, the statistics and the arguments hold.
 -- "a query 1, 2, 3, 11": each tests those of them that it has. Counts that do not fit the lent entries are refusal 1 (docs/DECISIONS.md, D2).
+use Rattle.std.specs.Prelude.{None, Option, Some}
 use Rattle.std.specs.Prelude.{ℕ, ◌+◌, ◌-◌, ◌*◌, ◌/◌, min, max, ◌≡◌, refl, ◌||◌, List, [], ◌∷◌, eqb, leb, ltb, get_or, set, replicate}
 use Rattle.words.specs.Lists.{pick}
 use Rattle.words.specs.Sums.{capped, quotient_of}
@@ -7,16 +8,14 @@ use Rattle.pool_types.specs.declared.Mempool.{Mempool}
 use Rattle.pool_types.specs.Outcomes.{Outcome, refused, number, wrote}
 use Rattle.stats.specs.Stats.{fee_in, fee_for_wait, wait_in, wait_for}
 use Rattle.stats.specs.declared.FeeStats.{FeeStats}
-use Rattle.stats.specs.declared.FeeForWait.{FeeForWait}
-use Rattle.stats.specs.declared.FeeForWait.TheVariants.{Fee, NoBin}
 use Rattle.entries.specs.Entries.{Entry}
 use Rattle.entries.specs.Layout.{entries_of, entries_room}
 
 -- ---- `recommended_fee`: ".. at least the minimum fee; the minimum if no bin". 3: "size above 98,304"
 
-abbrev pub at_least : ℕ → FeeForWait → ℕ
-at_least least (Fee f) = max f least
-at_least least NoBin = least
+abbrev pub at_least : ℕ → Option ℕ → ℕ
+at_least least (Some f) = max f least
+at_least least None = least
 
 -- of counts, totals and a minimum
 unfoldable pub recommended_in : List ℕ → List ℕ → ℕ → ℕ → ℕ → Outcome

@@ -2,8 +2,8 @@
 // answer buffer.
 #![tactic(auto)]
 
-ghost use Rattle.std.specs.Prelude.{◌≡◌, ◌+◌, ◌-◌, ◌*◌, ◌≤◌, ◌<◌, max, ltb, length, replicate};
-ghost use Rattle.words.specs.Lists.{pick};
+ghost use Rattle.std.specs.Prelude.{◌≡◌, ◌+◌, ◌-◌, ◌*◌, ◌≤◌, ◌<◌, ltb, length, replicate, count_by};
+ghost use Rattle.std.specs.List.{range_with_len};
 ghost use Rattle.words.specs.Sums.{quotient_of};
 ghost use Rattle.pool_types.specs.Outcomes.{number_of};
 ghost use Rattle.entries.specs.Layout.{EntriesOk, entry_at, entries_of};
@@ -11,50 +11,47 @@ ghost use Rattle.fees.specs.Fees.{at_least, recommended_in, recommended, above, 
 ghost use Rattle.fees.specs.Bins.{Bounds, bin_at, bins_of, Put, Laid, Drawn};
 
 use entries::fields::{entries_room, since_at, weight_at};
-use pool_types::{ListOutcome, Mempool, NumberOutcome};
-use stats::{FeeForWait, FeeStats, fee_for_wait, wait_for_position};
-use words::sums::{saturating_add, saturating_sub};
-use words::wide::{product, quotient};
+use pool_types::{Mempool, Refusal};
+use stats::{FeeStats, fee_for_wait, wait_for_position};
+use words::wide::Wide;
 
 // Largest size of a transaction.
 const MAX_TRANSACTION_SIZE: u32 = 98304;
 
 // ---- a fee for a wait
 
-fn larger(a: u64, b: u64) -> u64
-    ensures { result ≡ max a b }
-{
-    if a < b { b } else { a }
-}
-
-fn at_least(least: u64, found: FeeForWait) -> u64
+fn at_least(least: u64, found: Option<u64>) -> u64
     ensures { result ≡ at_least least found }
 {
-    match found {
-        FeeForWait::Fee(fee) => larger(fee, least),
-        FeeForWait::NoBin => least,
-    }
+    found.map_or(least, |fee| fee.max(least))
 }
 
 // The fee for a transaction of `size` bytes to be confirmed within `minutes`, at least `least`. It reads the bins that it needs.
+#[tactic(auto, unfolding(pool_types::specs::Outcomes::number_of, crate::specs::Fees::recommended_in))]
 pub fn recommended_in<'a>(
     counts: &'a [u64],
     totals: &'a [u64],
     least: u64,
     minutes: u32,
     size: u32,
-) -> NumberOutcome
+) -> Result<u64, Refusal>
     requires { (60 ≤ length counts.now) × (60 ≤ length totals.now) }
     ensures { number_of result ≡ recommended_in counts.now totals.now least minutes size }
 {
     if MAX_TRANSACTION_SIZE < size {
-        return NumberOutcome::NoNumber(3);
+        return Err(Refusal::Size);
     }
-    NumberOutcome::Number(at_least(least, fee_for_wait(counts, totals, minutes, size)))
+    Ok(at_least(least, fee_for_wait(counts, totals, minutes, size)))
 }
 
-// The same of statistics and a state. It reads no clock.
-pub fn recommended_fee(stats: FeeStats, mempool: Mempool, minutes: u32, size: u32) -> NumberOutcome
+// The same of statistics and a state, for callers that hold them by value: through the C interface the bins are lent. It reads no clock.
+#[tactic(auto, unfolding(pool_types::specs::Outcomes::number_of, crate::specs::Fees::recommended_in, crate::specs::Fees::recommended))]
+pub fn recommended_fee(
+    stats: FeeStats,
+    mempool: Mempool,
+    minutes: u32,
+    size: u32,
+) -> Result<u64, Refusal>
     ensures { number_of result ≡ recommended stats mempool minutes size }
 {
     let least = mempool.config.min_fee;
@@ -67,33 +64,29 @@ pub fn recommended_fee(stats: FeeStats, mempool: Mempool, minutes: u32, size: u3
 fn fee_per_kb(fee: u64, size: u32) -> u64
     ensures { result ≡ quotient_of (fee * 1024) size }
 {
-    quotient(product(fee, 1024), size as u64)
+    Wide::product(fee, 1024).quotient(size as u64)
 }
 
-// Whether entry i is ahead of a weight, as a number. One as heavy is not.
-fn ahead(entries: &[u64], i: usize, weight: u64) -> u64
+// Whether entry i is ahead of a weight. One as heavy is not.
+fn is_ahead(entries: &[u64], i: usize, weight: u64) -> bool
     requires { EntriesOk entries.now (i + 1) }
-    ensures { result ≡ pick (ltb weight (entry_at entries.now i).weight) 1 0 }
+    ensures { result ≡ ltb weight (entry_at entries.now i).weight }
 {
-    if weight < weight_at(entries, i) { 1 } else { 0 }
+    weight < weight_at(entries, i)
 }
 
 // How many of the first n entries are ahead of a weight.
+#[tactic(auto, unfolding(entries::specs::Layout::EntriesOk))]
 fn position(entries: &[u64], n: usize, weight: u64) -> u64
     requires { EntriesOk entries.now n }
-    ensures { result ≡ above weight (entries_of entries.now n) }
+    ensures { result ≡ count_by (λ i. ltb weight (entry_at entries.now i).weight) (range_with_len 0 n) }
 {
-    let mut count: u64 = 0;
-    let mut i = 0;
-    while i < n {
-        count += ahead(entries, i, weight);
-        i += 1;
-    }
-    count
+    (0..n).filter(|i| is_ahead(entries, *i, weight)).count() as u64
 }
 
 // The wait in milliseconds that a transaction of `size` bytes paying `fee` can expect at `time` among so many pooled, where `taken` were confirmed since
 // `window_start`.
+#[tactic(auto, unfolding(pool_types::specs::Outcomes::number_of, crate::specs::Fees::expected_in, entries::specs::Layout::EntriesOk, entries::specs::Layout::entries_room))]
 pub fn expected_wait_in(
     entries: &[u64],
     pooled: usize,
@@ -102,23 +95,21 @@ pub fn expected_wait_in(
     time: u64,
     fee: u64,
     size: u32,
-) -> NumberOutcome
+) -> Result<u64, Refusal>
     ensures { number_of result ≡ expected_in entries.now pooled window_start taken time fee size }
 {
     if entries_room(entries) < pooled {
-        return NumberOutcome::NoNumber(1);
+        return Err(Refusal::Lists);
     }
-    if size == 0 {
-        return NumberOutcome::NoNumber(3);
-    }
-    if MAX_TRANSACTION_SIZE < size {
-        return NumberOutcome::NoNumber(3);
+    if size == 0 || MAX_TRANSACTION_SIZE < size {
+        return Err(Refusal::Size);
     }
     let place = position(entries, pooled, fee_per_kb(fee, size));
-    NumberOutcome::Number(wait_for_position(window_start, taken, time, place))
+    Ok(wait_for_position(window_start, taken, time, place))
 }
 
-// The same of statistics and a state.
+// The same of statistics and a state, for callers that hold them by value.
+#[tactic(auto, unfolding(crate::specs::Fees::expected_in, crate::specs::Fees::expected_wait))]
 pub fn expected_wait_ms_at(
     entries: &[u64],
     stats: FeeStats,
@@ -126,7 +117,7 @@ pub fn expected_wait_ms_at(
     time: u64,
     fee: u64,
     size: u32,
-) -> NumberOutcome
+) -> Result<u64, Refusal>
     ensures { number_of result ≡ expected_wait entries.now stats mempool time fee size }
 {
     expected_wait_in(
@@ -156,11 +147,7 @@ fn clear_bins(answer: &mut [u64], n: usize)
     requires { n * 2 ≤ length answer.old }
     ensures { Laid answer.old answer.new n (replicate n no_bin) }
 {
-    let mut i = 0;
-    while i < n {
-        put_bin(answer, i, 0, 0);
-        i += 1;
-    }
+    answer[..n * 2].fill(0);
 }
 
 // The bin of a wait. Short of `longest` the quotient can still pass `bins`, where `longest` is no multiple of it.
@@ -171,8 +158,7 @@ fn bin_of(bins: u64, longest: u64, interval: u64, wait: u64) -> u64
     if longest <= wait {
         return bins;
     }
-    let i = wait / interval;
-    if i < bins { i } else { bins }
+    (wait / interval).min(bins)
 }
 
 // Counts one more, of this base, in bin i.
@@ -180,8 +166,8 @@ fn add_to(answer: &mut [u64], i: usize, base: u64)
     requires { i * 2 + 2 ≤ length answer.old }
     ensures { Put answer.old answer.new i (more (bin_at answer.old i) base) }
 {
-    let count = saturating_add(answer[i * 2], 1);
-    let total = saturating_add(answer[i * 2 + 1], base);
+    let count = answer[i * 2].saturating_add(1);
+    let total = answer[i * 2 + 1].saturating_add(base);
     put_bin(answer, i, count, total);
 }
 
@@ -201,12 +187,13 @@ fn add_entry(
     ensures { Laid answer.old answer.new (bins + 1) (add_to (bins_of answer.old (bins + 1)) (bin_of bins longest (time - (entry_at entries.now i).created)) (entry_at entries.now i).base) }
 {
     let since = since_at(entries, i);
-    let wait = saturating_sub(time, since.created);
+    let wait = time.saturating_sub(since.created);
     let at = bin_of(bins as u64, longest, interval, wait);
     add_to(answer, at as usize, since.base);
 }
 
 // Counts the first n entries. The bins' interval is divided out once for all.
+#[tactic(auto, unfolding(entries::specs::Layout::EntriesOk))]
 fn add_entries(entries: &[u64], n: usize, answer: &mut [u64], time: u64, bins: u32, longest: u64)
     requires entries_ok { EntriesOk entries.now n }
     requires bins_in_bounds { (bins + 1) * 2 ≤ length answer.old }
@@ -214,14 +201,13 @@ fn add_entries(entries: &[u64], n: usize, answer: &mut [u64], time: u64, bins: u
     ensures { Laid answer.old answer.new (bins + 1) (binned bins longest time (entries_of entries.now n) (bins_of answer.old (bins + 1))) }
 {
     let interval = longest / bins as u64;
-    let mut i = 0;
-    while i < n {
+    for i in 0..n {
         add_entry(entries, answer, i, time, bins, longest, interval);
-        i += 1;
     }
 }
 
 // The pool binned by how long each transaction has waited at `time`: bins + 1 bins, the last for waits of `longest` milliseconds or more.
+#[tactic(auto, using(crate::proofs::Laws::clear_none), unfolding(pool_types::specs::Outcomes::listed_of, crate::specs::Fees::histogram_of, entries::specs::Layout::EntriesOk, entries::specs::Layout::entries_room))]
 pub fn pool_histogram_at(
     entries: &[u64],
     mempool: Mempool,
@@ -229,23 +215,20 @@ pub fn pool_histogram_at(
     time: u64,
     bins: u32,
     longest: u64,
-) -> ListOutcome
+) -> Result<usize, Refusal>
     ensures { Drawn answer.old answer.new result (histogram_of entries.now mempool (length answer.old) time bins longest) }
 {
     if entries_room(entries) < mempool.counts.pooled {
-        return ListOutcome::NotListed(1);
+        return Err(Refusal::Lists);
     }
     let n = bins as usize + 1;
     if answer.len() / 2 < n {
-        return ListOutcome::NotListed(2);
+        return Err(Refusal::AnswerTooSmall);
     }
-    if bins == 0 {
-        return ListOutcome::NotListed(11);
-    }
-    if longest < bins as u64 {
-        return ListOutcome::NotListed(11);
+    if bins == 0 || longest < bins as u64 {
+        return Err(Refusal::Bins);
     }
     clear_bins(answer, n);
     add_entries(entries, mempool.counts.pooled, answer, time, bins, longest);
-    ListOutcome::Listed(n)
+    Ok(n)
 }

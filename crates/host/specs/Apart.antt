@@ -1,23 +1,18 @@
 -- What the answered numbers tell: the number of a submission is always one of a submission, and with the number of ids written it tells the
 -- outcome; that of a return, an invalidation, a block and the calls of a pass is always one of theirs; the number of a query that was refused is no count.
+use Rattle.std.specs.Prelude.{Err, Ok, Result}
+use Rattle.pool_types.specs.declared.Refusal.{Refusal}
+use Rattle.pool_types.specs.Refusals.{refusal_number}
 use Rattle.std.specs.Prelude.{ℕ, ◌*◌, ◌-◌, ◌^◌, ◌≤◌, ◌<◌, ◌≡◌, refl, Bool, true, false, not, ◌||◌, List, [], ◌∷◌, eqb, length}
 use Rattle.std.proofs.Common.{sym, ap, ◌∙◌, arith, ne_eqb}
 use Rattle.std.proofs.Math.Decide.{dec_lt}
 use Rattle.words.specs.Lists.{pick}
 use Rattle.words.specs.Sums.{cap}
-use Rattle.pool_types.specs.declared.ReturnOutcome.{ReturnOutcome}
-use Rattle.pool_types.specs.declared.ReturnOutcome.TheVariants.{Returned, NotReturned}
-use Rattle.pool_types.specs.declared.InvalidateOutcome.{InvalidateOutcome}
-use Rattle.pool_types.specs.declared.InvalidateOutcome.TheVariants.{Invalidated, NotInvalidated}
-use Rattle.pool_types.specs.declared.BlockOutcome.{BlockOutcome}
-use Rattle.pool_types.specs.declared.BlockOutcome.TheVariants.{Removed, NotApplied}
-use Rattle.pool_types.specs.declared.OpenOutcome.{OpenOutcome}
-use Rattle.pool_types.specs.declared.OpenOutcome.TheVariants.{Opened, NotOpened}
 use Rattle.pool_types.specs.declared.NextOutcome.{NextOutcome}
-use Rattle.pool_types.specs.declared.NextOutcome.TheVariants.{Candidate, Ended, NoPass}
+use Rattle.pool_types.specs.declared.NextOutcome.TheVariants.{Candidate, Ended}
 use Rattle.pool_types.specs.declared.AnswerOutcome.{AnswerOutcome}
-use Rattle.pool_types.specs.declared.AnswerOutcome.TheVariants.{InputMissing, AnswerNeeded, FoundInvalid, FoundValid, NotAnswered}
-use Rattle.pool_types.specs.Outcomes.{Outcome, processed_of, returned_of, invalidated_of, block_of, opened_of, next_of, answered_of, refused, done, wrote, needed, candidate, ended, missing, invalid, valid, number, said, entry, none}
+use Rattle.pool_types.specs.declared.AnswerOutcome.TheVariants.{InputMissing, AnswerNeeded, FoundInvalid, FoundValid}
+use Rattle.pool_types.specs.Outcomes.{Outcome, processed_of, done_of, listed_of, next_of, answered_of, refused, done, wrote, needed, candidate, ended, missing, invalid, valid, number, said, entry, none}
 use Rattle.pool_types.specs.declared.Verdict.{Verdict}
 use Rattle.boxes.specs.Among.{among, among-cons}
 use Rattle.checks.specs.Numbers.{refusals}
@@ -118,20 +113,20 @@ or-true false = refl
 one_more : (n m : ℕ) (l : List ℕ) → among n l ≡ true → among n (m ∷ l) ≡ true
 one_more n m l h = among-cons n m l ∙ ap (λ (t : Bool). eqb m n || t) h ∙ or-true (eqb m n)
 
-return-code : (o : ReturnOutcome) → of_return o ≡ true → among (code_of (returned_of o)) (0 ∷ return_refusals) ≡ true
-unfolding of_return returned_of code_of
-return-code Returned h = refl
-return-code (NotReturned n) h = one_more n 0 return_refusals h
+return-code : (o : (Result Unit Refusal)) → of_return o ≡ true → among (code_of (done_of o)) (0 ∷ return_refusals) ≡ true
+unfolding of_return done_of code_of
+return-code (Ok tt) h = refl
+return-code (Err n) h = one_more (refusal_number n) 0 return_refusals h
 
-invalidate-code : (o : InvalidateOutcome) → of_invalidation o ≡ true → among (code_of (invalidated_of o)) (0 ∷ 20 ∷ 1 ∷ []) ≡ true
-unfolding of_invalidation invalidated_of code_of
-invalidate-code Invalidated h = refl
-invalidate-code (NotInvalidated n) h = one_more n 0 (20 ∷ 1 ∷ []) h
+invalidate-code : (o : (Result Unit Refusal)) → of_invalidation o ≡ true → among (code_of (done_of o)) (0 ∷ 20 ∷ 1 ∷ []) ≡ true
+unfolding of_invalidation done_of code_of
+invalidate-code (Ok tt) h = refl
+invalidate-code (Err n) h = one_more (refusal_number n) 0 (20 ∷ 1 ∷ []) h
 
-block-code : (o : BlockOutcome) → of_block (block_of o) ≡ true → among (code_of (block_of o)) (100 ∷ 20 ∷ 1 ∷ 2 ∷ []) ≡ true
-unfolding of_block block_of code_of
-block-code (Removed k) h = refl
-block-code (NotApplied n) h = one_more n 100 (20 ∷ 1 ∷ 2 ∷ []) h
+block-code : (o : (Result ℕ Refusal)) → of_block (listed_of o) ≡ true → among (code_of (listed_of o)) (100 ∷ 20 ∷ 1 ∷ 2 ∷ []) ≡ true
+unfolding of_block listed_of code_of
+block-code (Ok k) h = refl
+block-code (Err n) h = one_more (refusal_number n) 100 (20 ∷ 1 ∷ 2 ∷ []) h
 
 pub return-ours : {e₀ e b₀ b s₀ s r₀ r tx ins outs : List ℕ} {code : ℕ} → ReturnCall e₀ e b₀ b s₀ s r₀ r tx ins outs code → among code (0 ∷ return_refusals) ≡ true
 return-ours {s₀ = s₀} {r₀ = r₀} {tx = tx} {code = code} r = go (dec_lt (length s₀) 25) (lacking (length tx) 13 (length r₀)) refl
@@ -160,25 +155,25 @@ block-ours {s₀ = s₀} {t₀ = t₀} {r₀ = r₀} {code = code} r = go (dec_l
 
 -- ---- the calls of a pass: opened with 0; a candidate with 102 and ended with 103; an input missing, invalid and valid with 104 to 106
 
-open_code : (o : OpenOutcome) → of_open o ≡ true → among (code_of (opened_of o)) (0 ∷ 1 ∷ 20 ∷ []) ≡ true
-unfolding of_open opened_of code_of
-open_code Opened h = refl
-open_code (NotOpened n) h = one_more n 0 (1 ∷ 20 ∷ []) (one_more n 1 (20 ∷ []) h)
+open_code : (o : (Result Unit Refusal)) → of_open o ≡ true → among (code_of (done_of o)) (0 ∷ 1 ∷ 20 ∷ []) ≡ true
+unfolding of_open done_of code_of
+open_code (Ok tt) h = refl
+open_code (Err n) h = one_more (refusal_number n) 0 (1 ∷ 20 ∷ []) (one_more (refusal_number n) 1 (20 ∷ []) h)
 
-next-code : (o : NextOutcome) → of_next o ≡ true → among (code_of (next_of o)) (102 ∷ 103 ∷ 21 ∷ 1 ∷ []) ≡ true
+next-code : (o : (Result NextOutcome Refusal)) → of_next o ≡ true → among (code_of (next_of o)) (102 ∷ 103 ∷ 21 ∷ 1 ∷ []) ≡ true
 unfolding of_next next_of code_of
-next-code (Candidate x) h = refl
-next-code (Ended n) h = refl
-next-code (NoPass n) h = one_more n 102 (103 ∷ 21 ∷ 1 ∷ []) (one_more n 103 (21 ∷ 1 ∷ []) h)
+next-code (Ok (Candidate x)) h = refl
+next-code (Ok (Ended n)) h = refl
+next-code (Err n) h = one_more (refusal_number n) 102 (103 ∷ 21 ∷ 1 ∷ []) (one_more (refusal_number n) 103 (21 ∷ 1 ∷ []) h)
 
-answer-code : (o : AnswerOutcome) → of_answer o ≡ true → among (code_of (answered_of o)) (101 ∷ 104 ∷ 105 ∷ 106 ∷ 21 ∷ 1 ∷ []) ≡ true
+answer-code : (o : (Result AnswerOutcome Refusal)) → of_answer o ≡ true → among (code_of (answered_of o)) (101 ∷ 104 ∷ 105 ∷ 106 ∷ 21 ∷ 1 ∷ []) ≡ true
 unfolding of_answer answered_of code_of
-answer-code (InputMissing x) h = refl
-answer-code AnswerNeeded h = refl
-answer-code (FoundInvalid x) h = refl
-answer-code (FoundValid x) h = refl
-answer-code (NotAnswered n) h =
-    one_more n 101 (104 ∷ 105 ∷ 106 ∷ 21 ∷ 1 ∷ []) (one_more n 104 (105 ∷ 106 ∷ 21 ∷ 1 ∷ []) (one_more n 105 (106 ∷ 21 ∷ 1 ∷ []) (one_more n 106 (21 ∷ 1 ∷ []) h)))
+answer-code (Ok (InputMissing x)) h = refl
+answer-code (Ok AnswerNeeded) h = refl
+answer-code (Ok (FoundInvalid x)) h = refl
+answer-code (Ok (FoundValid x)) h = refl
+answer-code (Err n) h =
+    one_more (refusal_number n) 101 (104 ∷ 105 ∷ 106 ∷ 21 ∷ 1 ∷ []) (one_more (refusal_number n) 104 (105 ∷ 106 ∷ 21 ∷ 1 ∷ []) (one_more (refusal_number n) 105 (106 ∷ 21 ∷ 1 ∷ []) (one_more (refusal_number n) 106 (21 ∷ 1 ∷ []) h)))
 
 pub open-ours : {s₀ s r₀ r : List ℕ} {time limit preheader code : ℕ} → OpenCall s₀ s r₀ r time limit preheader code → among code (0 ∷ 1 ∷ 20 ∷ []) ≡ true
 open-ours {s₀ = s₀} {r₀ = r₀} {code = code} r = go (dec_lt (length s₀) 25) (dec_lt (length r₀) 16)

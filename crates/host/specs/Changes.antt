@@ -1,19 +1,18 @@
 -- What the exported calls beside a submission leave, by the words of the C side: a return, an invalidation and a block. As for a submission, an
 -- outcome stands behind the number, and with it and the state that the words now hold the call's own contract is met.
+use Rattle.std.specs.Prelude.{Result}
+use Rattle.pool_types.specs.declared.Refusal.{Refusal}
+use Rattle.std.specs.Prelude.{None}
 use Rattle.std.specs.Prelude.{ℕ, ◌/◌, ◌≤◌, ◌<◌, ◌≡◌, refl, Bool, true, false, List, [], ◌∷◌, length, get_or}
 use Rattle.std.proofs.Common.{sym, ap, ◌∙◌, arith}
 use Rattle.words.specs.Lists.{pick}
 use Rattle.words.specs.Ids.{words_at}
 use Rattle.pool_types.specs.declared.Mempool.{Mempool}
-use Rattle.pool_types.specs.declared.ReturnOutcome.{ReturnOutcome}
-use Rattle.pool_types.specs.declared.InvalidateOutcome.{InvalidateOutcome}
-use Rattle.pool_types.specs.declared.BlockOutcome.{BlockOutcome}
 use Rattle.pool_types.specs.declared.Source.TheVariants.{Peer}
-use Rattle.pool_types.specs.Outcomes.{refused, wrote, returned_of, invalidated_of, block_of}
+use Rattle.pool_types.specs.Outcomes.{refused, wrote, done_of, listed_of}
 use Rattle.stats.specs.declared.FeeStats.{FeeStats}
 use Rattle.peers.specs.declared.PeerRecord.{PeerRecord}
 use Rattle.entries.specs.Layout.{cost_of}
-use Rattle.entries.specs.declared.fields.ValidationCost.TheVariants.{Unmeasured}
 use Rattle.pool.specs.Pool.{fits_test}
 use Rattle.store.specs.Fits.{cache_fits}
 use Rattle.store.specs.Spares.{Spares, lent}
@@ -48,7 +47,7 @@ tx_of l =
 
 -- each word where it belongs; a cost keeps its low half, and 0 is unmeasured
 given_back : tx_of (1 ∷ 2 ∷ 3 ∷ 4 ∷ 5 ∷ 300 ∷ 4294967303 ∷ 0 ∷ 9 ∷ 10 ∷ 11 ∷ 1 ∷ 42 ∷ [])
-    ≡ record { id = record { a = 1; b = 2; c = 3; d = 4 }; fee = 5; size = 300; cost = 7; validation_cost = Unmeasured; created = 10; last_checked = 11; source = Peer 42 }
+    ≡ record { id = record { a = 1; b = 2; c = 3; d = 4 }; fee = 5; size = 300; cost = 7; validation_cost = None; created = 10; last_checked = 11; source = Peer 42 }
 unfolding tx_of
 given_back = refl
 
@@ -70,16 +69,16 @@ differ p q = let z : ◌≡◌ {A = ℕ} 0 1 = cc in absurd (omega arith)
 -- ---- a return
 
 -- what a refusal spares, whatever the words of the cache, the peer records and the answer buffer's words are
-abbrev pub ReturnSpares : List ℕ → List ℕ → List ℕ → List ℕ → Mempool → Mempool → ReturnOutcome → Type 0
-ReturnSpares e₀ e b₀ b st r o = (k : List ℕ) (ys : List PeerRecord) (a : List ℕ) → Spares (returned_of o) (lent e₀ b₀ k ys a st) (lent e b k ys a r)
+abbrev pub ReturnSpares : List ℕ → List ℕ → List ℕ → List ℕ → Mempool → Mempool → (Result Unit Refusal) → Type 0
+ReturnSpares e₀ e b₀ b st r o = (k : List ℕ) (ys : List PeerRecord) (a : List ℕ) → Spares (done_of o) (lent e₀ b₀ k ys a st) (lent e b k ys a r)
 
 pub record Returning (e₀ e b₀ b s₀ s r₀ r tx ins outs : List ℕ) (code : ℕ) : Type 0 where
-  pub outcome : ReturnOutcome
-  pub left : Changed s₀ s r₀ r (returned_of outcome) code
+  pub outcome : (Result Unit Refusal)
+  pub left : Changed s₀ s r₀ r (done_of outcome) code
   pub ours : of_return outcome ≡ true
-  pub post : ReturnPromise e₀ b₀ (state_of s₀) (tx_of tx) ins outs e b (state_of s) (returned_of outcome)
+  pub post : ReturnPromise e₀ b₀ (state_of s₀) (tx_of tx) ins outs e b (state_of s) (done_of outcome)
   pub spares : ReturnSpares e₀ e b₀ b (state_of s₀) (state_of s) outcome
-  pub unfit : fits_test e₀ b₀ (state_of s₀).counts ≡ false → returned_of outcome ≡ refused (pick (state_of s₀).pass.«open» 20 1) 0
+  pub unfit : fits_test e₀ b₀ (state_of s₀).counts ≡ false → done_of outcome ≡ refused (pick (state_of s₀).pass.«open» 20 1) 0
 
 -- "20 or 21 first": where the state is there, an open pass is named before too few words of a transaction or of a result
 pub record ReturnCall (e₀ e b₀ b s₀ s r₀ r tx ins outs : List ℕ) (code : ℕ) : Type 0 where
@@ -96,14 +95,14 @@ module _ (e b s r₀ r tx ins outs : List ℕ) {code : ℕ} where
 
 -- from what return_to_pool says of the state and the transaction that were read
 module _ (e₀ e b₀ b s₀ s r₀ r' tx ins outs : List ℕ) {t : Bool} {st : Mempool} {u : UnconfirmedTx} (r : ReturnedRecord) (h : 25 ≤ length s₀) (g : t ≡ lacking (length tx) 13 (length r₀)) (g' : t ≡ false) (f : st ≡ state_of s₀) (d : u ≡ tx_of tx)
-    (p : ReturnPromise e₀ b₀ st u ins outs e b r.mempool (returned_of r.outcome))
+    (p : ReturnPromise e₀ b₀ st u ins outs e b r.mempool (done_of r.outcome))
     (v : ReturnSpares e₀ e b₀ b st r.mempool r.outcome)
-    (x : fits_test e₀ b₀ st.counts ≡ false → returned_of r.outcome ≡ refused (pick st.pass.«open» 20 1) 0)
+    (x : fits_test e₀ b₀ st.counts ≡ false → done_of r.outcome ≡ refused (pick st.pass.«open» 20 1) 0)
     (q : s ≡ left_words s₀ r.mempool.counts r.mempool.cached r.mempool.sums) where
-  return-posted : ReturnPromise e₀ b₀ st u ins outs e b (state_of s) (returned_of r.outcome)
+  return-posted : ReturnPromise e₀ b₀ st u ins outs e b (state_of s) (done_of r.outcome)
   return-posted k ys z = let t = p k ys z in rw (left-held s₀ s st r.mempool h f q t.config t.pass) t
 
-  pub return-words : {code : ℕ} → of_return r.outcome ≡ true → Says r₀ r' (returned_of r.outcome) code → ReturnCall e₀ e b₀ b s₀ s r₀ r' tx ins outs code
+  pub return-words : {code : ℕ} → of_return r.outcome ≡ true → Says r₀ r' (done_of r.outcome) code → ReturnCall e₀ e b₀ b s₀ s r₀ r' tx ins outs code
   return-words o c =
       record {
         short_state = λ z. absurd (omega arith);
@@ -112,7 +111,7 @@ module _ (e₀ e b₀ b s₀ s r₀ r' tx ins outs : List ℕ) {t : Bool} {st : 
             λ _ _.
             record {
               outcome = r.outcome;
-              left = changed s₀ s r.mempool h q (returned_of r.outcome) c;
+              left = changed s₀ s r.mempool h q (done_of r.outcome) c;
               ours = o;
               post = rw (← f, ← d) return-posted;
               spares = λ k ys a. left-spares s₀ s r.mempool h q f (v k ys a);
@@ -122,16 +121,16 @@ module _ (e₀ e b₀ b s₀ s r₀ r' tx ins outs : List ℕ) {t : Bool} {st : 
 
 -- ---- an invalidation
 
-abbrev pub InvalidateSpares : List ℕ → List ℕ → List ℕ → List ℕ → List ℕ → List ℕ → Mempool → Mempool → InvalidateOutcome → Type 0
-InvalidateSpares e₀ e b₀ b k₀ k st r o = (ys : List PeerRecord) (a : List ℕ) → Spares (invalidated_of o) (lent e₀ b₀ k₀ ys a st) (lent e b k ys a r)
+abbrev pub InvalidateSpares : List ℕ → List ℕ → List ℕ → List ℕ → List ℕ → List ℕ → Mempool → Mempool → (Result Unit Refusal) → Type 0
+InvalidateSpares e₀ e b₀ b k₀ k st r o = (ys : List PeerRecord) (a : List ℕ) → Spares (done_of o) (lent e₀ b₀ k₀ ys a st) (lent e b k ys a r)
 
 pub record Invalidating (e₀ e b₀ b k₀ k s₀ s r₀ r : List ℕ) (time id code : ℕ) : Type 0 where
-  pub outcome : InvalidateOutcome
-  pub left : Changed s₀ s r₀ r (invalidated_of outcome) code
+  pub outcome : (Result Unit Refusal)
+  pub left : Changed s₀ s r₀ r (done_of outcome) code
   pub ours : of_invalidation outcome ≡ true
-  pub post : InvalidatePromise e₀ b₀ k₀ (state_of s₀) time id e b k (state_of s) (invalidated_of outcome)
+  pub post : InvalidatePromise e₀ b₀ k₀ (state_of s₀) time id e b k (state_of s) (done_of outcome)
   pub spares : InvalidateSpares e₀ e b₀ b k₀ k (state_of s₀) (state_of s) outcome
-  pub unfit : cache_fits e₀ b₀ k₀ (state_of s₀) ≡ false → invalidated_of outcome ≡ refused (pick (state_of s₀).pass.«open» 20 1) 0
+  pub unfit : cache_fits e₀ b₀ k₀ (state_of s₀) ≡ false → done_of outcome ≡ refused (pick (state_of s₀).pass.«open» 20 1) 0
 
 pub record InvalidateCall (e₀ e b₀ b k₀ k s₀ s r₀ r : List ℕ) (time id code : ℕ) : Type 0 where
   pub short_state : length s₀ < 25 → Idle 1 code r₀ r (e₀ ∷ b₀ ∷ k₀ ∷ s₀ ∷ []) (e ∷ b ∷ k ∷ s ∷ [])
@@ -146,14 +145,14 @@ module _ (e b k s r₀ r : List ℕ) (time id : ℕ) {code : ℕ} where
   invalidate-short h g d c = record { short_state = λ f. absurd (omega arith); short = λ _ _. idle _ d c; ran = λ _ f. absurd (omega arith) }
 
 module _ (e₀ e b₀ b k₀ k s₀ s r₀ r' : List ℕ) (time id : ℕ) {st : Mempool} (r : InvalidatedRecord) (h : 25 ≤ length s₀) (g : 16 ≤ length r₀) (f : st ≡ state_of s₀)
-    (p : InvalidatePromise e₀ b₀ k₀ st time id e b k r.mempool (invalidated_of r.outcome))
+    (p : InvalidatePromise e₀ b₀ k₀ st time id e b k r.mempool (done_of r.outcome))
     (v : InvalidateSpares e₀ e b₀ b k₀ k st r.mempool r.outcome)
-    (x : cache_fits e₀ b₀ k₀ st ≡ false → invalidated_of r.outcome ≡ refused (pick st.pass.«open» 20 1) 0)
+    (x : cache_fits e₀ b₀ k₀ st ≡ false → done_of r.outcome ≡ refused (pick st.pass.«open» 20 1) 0)
     (q : s ≡ left_words s₀ r.mempool.counts r.mempool.cached r.mempool.sums) where
-  invalidate-posted : InvalidatePromise e₀ b₀ k₀ st time id e b k (state_of s) (invalidated_of r.outcome)
+  invalidate-posted : InvalidatePromise e₀ b₀ k₀ st time id e b k (state_of s) (done_of r.outcome)
   invalidate-posted ys z = let t = p ys z in rw (left-held s₀ s st r.mempool h f q t.config t.pass) t
 
-  pub invalidate-words : {code : ℕ} → of_invalidation r.outcome ≡ true → Says r₀ r' (invalidated_of r.outcome) code → InvalidateCall e₀ e b₀ b k₀ k s₀ s r₀ r' time id code
+  pub invalidate-words : {code : ℕ} → of_invalidation r.outcome ≡ true → Says r₀ r' (done_of r.outcome) code → InvalidateCall e₀ e b₀ b k₀ k s₀ s r₀ r' time id code
   invalidate-words o c =
       record {
         short_state = λ z. absurd (omega arith);
@@ -162,7 +161,7 @@ module _ (e₀ e b₀ b k₀ k s₀ s r₀ r' : List ℕ) (time id : ℕ) {st : 
             λ _ _.
             record {
               outcome = r.outcome;
-              left = changed s₀ s r.mempool h q (invalidated_of r.outcome) c;
+              left = changed s₀ s r.mempool h q (done_of r.outcome) c;
               ours = o;
               post = rw (← f) invalidate-posted;
               spares = λ ys a. left-spares s₀ s r.mempool h q f (v ys a);
@@ -172,20 +171,20 @@ module _ (e₀ e b₀ b k₀ k s₀ s r₀ r' : List ℕ) (time id : ℕ) {st : 
 
 -- ---- a block: t₀ were the words of the statistics, and t they are
 
-abbrev pub BlockSpares : List ℕ → List ℕ → List ℕ → List ℕ → List ℕ → List ℕ → List ℕ → List ℕ → Mempool → Mempool → BlockOutcome → Type 0
-BlockSpares e₀ e b₀ b k₀ k a₀ a st r o = (ys : List PeerRecord) → Spares (block_of o) (lent e₀ b₀ k₀ ys a₀ st) (lent e b k ys a r)
+abbrev pub BlockSpares : List ℕ → List ℕ → List ℕ → List ℕ → List ℕ → List ℕ → List ℕ → List ℕ → Mempool → Mempool → (Result ℕ Refusal) → Type 0
+BlockSpares e₀ e b₀ b k₀ k a₀ a st r o = (ys : List PeerRecord) → Spares (listed_of o) (lent e₀ b₀ k₀ ys a₀ st) (lent e b k ys a r)
 
 pub record Blocking (e₀ e b₀ b k₀ k a₀ a s₀ s t₀ t r₀ r : List ℕ) (time : ℕ) (txs ins : List ℕ) (code : ℕ) : Type 0 where
-  pub outcome : BlockOutcome
-  pub left : Changed s₀ s r₀ r (block_of outcome) code
-  pub ours : of_block (block_of outcome) ≡ true
+  pub outcome : (Result ℕ Refusal)
+  pub left : Changed s₀ s r₀ r (listed_of outcome) code
+  pub ours : of_block (listed_of outcome) ≡ true
   pub stats : Restored t₀ t (stats_of t)
   pub post : BlockPromise e₀ b₀ k₀ (state_of s₀) (stats_of t₀) time txs ins e b k a₀ a (record { mempool = state_of s; stats = stats_of t; outcome = outcome })
   pub spares : BlockSpares e₀ e b₀ b k₀ k a₀ a (state_of s₀) (state_of s) outcome
   -- a refusal leaves the statistics' words
-  pub spared : (j i : ℕ) → block_of outcome ≡ refused j i → t ≡ t₀
-  pub unfit : cache_fits e₀ b₀ k₀ (state_of s₀) ≡ false → block_of outcome ≡ refused (pick (state_of s₀).pass.«open» 20 1) 0
-  pub few : (n : ℕ) → block_of outcome ≡ wrote n → n ≤ length a₀ / 4
+  pub spared : (j i : ℕ) → listed_of outcome ≡ refused j i → t ≡ t₀
+  pub unfit : cache_fits e₀ b₀ k₀ (state_of s₀) ≡ false → listed_of outcome ≡ refused (pick (state_of s₀).pass.«open» 20 1) 0
+  pub few : (n : ℕ) → listed_of outcome ≡ wrote n → n ≤ length a₀ / 4
 
 -- .. and before too few words of statistics
 pub record BlockCall (e₀ e b₀ b k₀ k a₀ a s₀ s t₀ t r₀ r : List ℕ) (time : ℕ) (txs ins : List ℕ) (code : ℕ) : Type 0 where
@@ -208,9 +207,9 @@ block-ran h q x b = record { short_state = λ f. absurd (omega arith); short = �
 module _ (e₀ e b₀ b k₀ k a₀ a s₀ s t₀ t r₀ r' : List ℕ) (time : ℕ) (txs ins : List ℕ) {st : Mempool} {v : FeeStats} (r : Applied) (h : 25 ≤ length s₀) (g : 124 ≤ length t₀) (f : st ≡ state_of s₀) (d : v ≡ stats_of t₀)
     (p : BlockPromise e₀ b₀ k₀ st v time txs ins e b k a₀ a r)
     (x : BlockSpares e₀ e b₀ b k₀ k a₀ a st r.mempool r.outcome)
-    (z : (j i : ℕ) → block_of r.outcome ≡ refused j i → r.stats ≡ v)
-    (u : cache_fits e₀ b₀ k₀ st ≡ false → block_of r.outcome ≡ refused (pick st.pass.«open» 20 1) 0)
-    (m : (n : ℕ) → block_of r.outcome ≡ wrote n → n ≤ length a₀ / 4)
+    (z : (j i : ℕ) → listed_of r.outcome ≡ refused j i → r.stats ≡ v)
+    (u : cache_fits e₀ b₀ k₀ st ≡ false → listed_of r.outcome ≡ refused (pick st.pass.«open» 20 1) 0)
+    (m : (n : ℕ) → listed_of r.outcome ≡ wrote n → n ≤ length a₀ / 4)
     (y : Restored t₀ t r.stats)
     (q : s ≡ left_words s₀ r.mempool.counts r.mempool.cached r.mempool.sums) where
   -- what was handed back is what the words hold
@@ -220,11 +219,11 @@ module _ (e₀ e b₀ b k₀ k a₀ a s₀ s t₀ t r₀ r' : List ℕ) (time : 
   block-posted : BlockPromise e₀ b₀ k₀ st v time txs ins e b k a₀ a (record { mempool = state_of s; stats = stats_of t; outcome = r.outcome })
   block-posted ys c = let w = p ys c in rw (← handed w.config w.pass) w
 
-  pub block_words : {code : ℕ} → of_block (block_of r.outcome) ≡ true → Says r₀ r' (block_of r.outcome) code → Blocking e₀ e b₀ b k₀ k a₀ a s₀ s t₀ t r₀ r' time txs ins code
+  pub block_words : {code : ℕ} → of_block (listed_of r.outcome) ≡ true → Says r₀ r' (listed_of r.outcome) code → Blocking e₀ e b₀ b k₀ k a₀ a s₀ s t₀ t r₀ r' time txs ins code
   block_words o c =
       record {
         outcome = r.outcome;
-        left = changed s₀ s r.mempool h q (block_of r.outcome) c;
+        left = changed s₀ s r.mempool h q (listed_of r.outcome) c;
         ours = o;
         stats = record { kept = y.kept; stats = refl; rest = y.rest };
         post = rw (← f, ← d) block-posted;

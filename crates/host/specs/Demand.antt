@@ -1,14 +1,17 @@
 -- Demand 3 (document 01) of the words that the C side holds: over every list of exported calls from an accepted gunthyd_start, with any arguments and
 -- any answer buffers and result records, the words decode to the pool that the ledger says. The ledger is fed the decoded arguments and the outcome behind each number.
+use Rattle.pool_types.specs.declared.Refusal.TheVariants.{Settings}
+use Rattle.std.specs.Prelude.{Err, Ok, Result}
+use Rattle.pool_types.specs.declared.Refusal.{Refusal}
+use Rattle.pool_types.specs.declared.Mempool.{Mempool}
+use Rattle.pool_types.specs.Refusals.{refusal_number}
 use Rattle.std.specs.Prelude.{ℕ, ◌≤◌, ◌<◌, ◌≡◌, Bool, true, false, List, [], ◌∷◌, length}
 use Rattle.std.proofs.Math.Path.{refl}
 use Rattle.std.proofs.Common.{sym, ap, subst, ◌∙◌, arith}
 use Rattle.words.specs.Lists.{pick}
 use Rattle.pool_types.specs.declared.MempoolConfig.{MempoolConfig}
 use Rattle.pool_types.specs.declared.Verdict.{Verdict}
-use Rattle.pool_types.specs.declared.StartOutcome.{StartOutcome}
-use Rattle.pool_types.specs.declared.StartOutcome.TheVariants.{Ready, NotStarted}
-use Rattle.pool_types.specs.Outcomes.{Outcome, processed_of, returned_of, invalidated_of, block_of, opened_of, next_of, answered_of}
+use Rattle.pool_types.specs.Outcomes.{Outcome, processed_of, done_of, listed_of, next_of, answered_of}
 use Rattle.peers.specs.declared.PeerRecord.{PeerRecord}
 use Rattle.mempool.specs.Start.{Sizes, sized, settled, empty, started}
 use Rattle.ledger.specs.Ledger.{Call, Submit, Return, Block, Invalidate, Open, Next, Answer, Heard}
@@ -65,16 +68,16 @@ pub data HostRun (g : MempoolConfig) : List Heard → HostMoment → Type 0 wher
       → HostRun g (hears (Submit (submission_of sub) ins outs) (processed_of (x.ran l q).outcome) ∷ h) n
   returns : {h : List Heard} {m : HostMoment} {e b s r₀ r tx ins outs : List ℕ} {code : ℕ} → HostRun g h m
       → (x : ReturnCall m.entries e m.boxes b m.state s r₀ r tx ins outs code) (l : 25 ≤ length m.state) (q : lacking (length tx) 13 (length r₀) ≡ false)
-      → HostRun g (hears (Return (tx_of tx) ins outs) (returned_of (x.ran l q).outcome) ∷ h) (held e b m.cache m.peers s)
+      → HostRun g (hears (Return (tx_of tx) ins outs) (done_of (x.ran l q).outcome) ∷ h) (held e b m.cache m.peers s)
   invalidates : {h : List Heard} {m : HostMoment} {e b k s r₀ r : List ℕ} {time id code : ℕ} → HostRun g h m
       → (x : InvalidateCall m.entries e m.boxes b m.cache k m.state s r₀ r time id code) (l : 25 ≤ length m.state) (q : 16 ≤ length r₀)
-      → HostRun g (hears (Invalidate time id) (invalidated_of (x.ran l q).outcome) ∷ h) (held e b k m.peers s)
+      → HostRun g (hears (Invalidate time id) (done_of (x.ran l q).outcome) ∷ h) (held e b k m.peers s)
   applies : {h : List Heard} {m : HostMoment} {e b k a₀ a s t₀ t r₀ r : List ℕ} {time : ℕ} {txs ins : List ℕ} {code : ℕ} → HostRun g h m
       → (x : BlockCall m.entries e m.boxes b m.cache k a₀ a m.state s t₀ t r₀ r time txs ins code) (l : 25 ≤ length m.state) (q : lacking (length t₀) 124 (length r₀) ≡ false)
-      → HostRun g (hears (Block time txs ins) (block_of (x.ran l q).outcome) ∷ h) (held e b k m.peers s)
+      → HostRun g (hears (Block time txs ins) (listed_of (x.ran l q).outcome) ∷ h) (held e b k m.peers s)
   opens : {h : List Heard} {m : HostMoment} {s r₀ r : List ℕ} {time limit preheader code : ℕ} → HostRun g h m
       → (x : OpenCall m.state s r₀ r time limit preheader code) (l : 25 ≤ length m.state) (q : 16 ≤ length r₀)
-      → HostRun g (hears (Open time limit preheader) (opened_of (x.ran l q).outcome) ∷ h) (held m.entries m.boxes m.cache m.peers s)
+      → HostRun g (hears (Open time limit preheader) (done_of (x.ran l q).outcome) ∷ h) (held m.entries m.boxes m.cache m.peers s)
   nexts : {h : List Heard} {m : HostMoment} {s r₀ r : List ℕ} {code : ℕ} → HostRun g h m
       → (x : NextCall m.entries m.state s r₀ r code) (l : 25 ≤ length m.state) (q : 16 ≤ length r₀)
       → HostRun g (hears Next (next_of (x.ran l q).outcome) ∷ h) (held m.entries m.boxes m.cache m.peers s)
@@ -103,11 +106,11 @@ pub data HostRun (g : MempoolConfig) : List Heard → HostMoment → Type 0 wher
 -- ---- a start
 
 -- it is refused with 6 alone
-not-six : (z : Sizes) (c : MempoolConfig) (n : ℕ) → started z c ≡ NotStarted n → n ≡ 6
+not-six : (z : Sizes) (c : MempoolConfig) (f : Refusal) → started z c ≡ Err f → f ≡ Settings
 unfolding started
-not-six z c n = go (sized z) (settled z c)
+not-six z c f = go (sized z) (settled z c)
   where
-    go : (a b : Bool) → pick a (pick b (Ready (empty c)) (NotStarted 6)) (NotStarted 6) ≡ NotStarted n → n ≡ 6
+    go : (a b : Bool) → pick a (pick b (Ok (empty c)) (Err Settings)) (Err Settings) ≡ Err f → f ≡ Settings
     go true true e = let x : ◌≡◌ {A = ℕ} 0 1 = cc in absurd (omega arith)
     go true false e = cc
     go false b e = cc
@@ -118,9 +121,9 @@ module _ {time : ℕ} {c e b k : List ℕ} {p : ℕ} {t₀ t s₀ s r₀ r : Lis
   unfolding Answered
   start-kept z = go (scant c t₀ s₀ r₀) refl
     where
-      by : (o : StartOutcome) → Answered o time c t₀ t s₀ s r₀ r code → s ≡ s₀
-      by (Ready st) w = absurd (z w.answered)
-      by (NotStarted n) w = let q = w.words in cc
+      by : (o : Result Mempool Refusal) → Answered o time c t₀ t s₀ s r₀ r code → s ≡ s₀
+      by (Ok st) w = absurd (z w.answered)
+      by (Err n) w = let q = w.words in cc
 
       go : (y : Bool) → scant c t₀ s₀ r₀ ≡ y → s ≡ s₀
       go true q = let w = (x.short q).words in cc
@@ -129,15 +132,15 @@ module _ {time : ℕ} {c e b k : List ℕ} {p : ℕ} {t₀ t s₀ s r₀ r : Lis
 -- accepted, with 25 words at least, they hold the state that start handed back
 pub record Accepted (c e b k : List ℕ) (p : ℕ) (s : List ℕ) : Type 0 where
   pub long : 25 ≤ length s
-  pub ready : started (sizes_of e b k p) (config_of c) ≡ Ready (state_of s)
+  pub ready : started (sizes_of e b k p) (config_of c) ≡ Ok (state_of s)
 
 pub start-accepted : {time : ℕ} {c e b k : List ℕ} {p : ℕ} {t₀ t s₀ s r₀ r : List ℕ} → Started time c e b k p t₀ t s₀ s r₀ r 0 → Accepted c e b k p s
 unfolding Answered
 start-accepted {time} {c} {e} {b} {k} {p} {t₀} {t} {s₀} {s} {r₀} {r} x = go (scant c t₀ s₀ r₀) refl
   where
-    by : 25 ≤ length s₀ → (o : StartOutcome) → started (sizes_of e b k p) (config_of c) ≡ o → Answered o time c t₀ t s₀ s r₀ r 0 → Accepted c e b k p s
-    by l (Ready st) q w = record { long = omega (arith, w.words.kept, l); ready = q ∙ ap Ready (sym w.state) }
-    by l (NotStarted n) q w = absurd (omega (arith, w.answered, not-six _ _ n q))
+    by : 25 ≤ length s₀ → (o : Result Mempool Refusal) → started (sizes_of e b k p) (config_of c) ≡ o → Answered o time c t₀ t s₀ s r₀ r 0 → Accepted c e b k p s
+    by l (Ok st) q w = record { long = omega (arith, w.words.kept, l); ready = q ∙ ap Ok (sym w.state) }
+    by l (Err n) q w = absurd (omega (arith, w.answered, ap refusal_number (not-six _ _ n q)))
 
     go : (y : Bool) → scant c t₀ s₀ r₀ ≡ y → Accepted c e b k p s
     go true q = absurd (omega (arith, (x.short q).answered))
@@ -203,7 +206,7 @@ host-long (starts-not r x z) = let l = host-long r in subst (λ (s : List ℕ). 
 
 -- an accepted start of these very words
 accepted-here : {g : MempoolConfig} {time : ℕ} {c t₀ t s₀ r₀ r : List ℕ} (m : HostMoment) → Started time c m.entries m.boxes m.cache (length m.peers) t₀ t s₀ m.state r₀ r 0 → config_of c ≡ g
-    → started (sizes_at (decoded m)) g ≡ Ready (decoded m).state
+    → started (sizes_at (decoded m)) g ≡ Ok (decoded m).state
 accepted-here m x q = rw (← q) (start-accepted x).ready
 
 pub host-told : {g : MempoolConfig} {h : List Heard} {m : HostMoment} → HostRun g h m → Told g h (decoded m)

@@ -1,5 +1,8 @@
 -- What the exported fee queries answer. A fee and a wait may be any word, so that the number stands in the first word of the answer buffer, and the
 -- call answers 1 where it wrote it.
+use Rattle.pool_types.specs.Refusals.{refusal_number}
+use Rattle.std.specs.Prelude.{Err, Ok, Result}
+use Rattle.pool_types.specs.declared.Refusal.{Refusal}
 use Rattle.std.specs.Prelude.{ℕ, ◌-◌, ◌≤◌, ◌<◌, ◌≡◌, List, [], ◌∷◌, ltb, length, get_or, set, take, drop}
 use Rattle.std.proofs.Math.Path.{refl, ap}
 use Rattle.std.proofs.Common.{◌∙◌}
@@ -10,9 +13,6 @@ use Rattle.words.specs.Rows.{stored}
 use Rattle.words.specs.Tables.{of_none}
 use Rattle.pool_types.specs.declared.Mempool.{Mempool}
 use Rattle.pool_types.specs.declared.MempoolConfig.{MempoolConfig}
-use Rattle.pool_types.specs.declared.ListOutcome.{ListOutcome}
-use Rattle.pool_types.specs.declared.NumberOutcome.{NumberOutcome}
-use Rattle.pool_types.specs.declared.NumberOutcome.TheVariants.{Number, NoNumber}
 use Rattle.pool_types.specs.Outcomes.{Outcome, refused, done, wrote, needed, candidate, ended, missing, invalid, valid, number, said, entry, none, number_of, listed_of}
 use Rattle.fees.specs.Fees.{recommended_in, recommended, recommended-by, expected_in, expected_wait, expected-by, Histogram, no_histogram, histogram_of}
 use Rattle.fees.specs.Bins.{Laid, Drawn, bins as bin_table}
@@ -59,14 +59,14 @@ pub record Figure (a₀ a : List ℕ) (code : ℕ) (o : Outcome) : Type 0 where
   pub answered : code ≡ figure_of o
   pub answer : a ≡ stored a₀ 0 (figure_in o)
 
-module _ (a : List ℕ) {o : NumberOutcome} (n : ℕ) where
-  pub figure-number : o ≡ Number n → Figure a (set a 0 n) 1 (number_of o)
+module _ (a : List ℕ) {o : Result ℕ Refusal} where
+  pub figure-number : (n : ℕ) → o ≡ Ok n → Figure a (set a 0 n) 1 (number_of o)
   unfolding number_of figure_of figure_in
-  figure-number e = rw e (record { answered = refl; answer = refl })
+  figure-number n e = rw e (record { answered = refl; answer = refl })
 
-  pub figure-refused : o ≡ NoNumber n → Figure a a (cap - n) (number_of o)
+  pub figure-refused : (f : Refusal) → o ≡ Err f → Figure a a (cap - refusal_number f) (number_of o)
   unfolding number_of figure_of figure_in
-  figure-refused e = rw e (record { answered = refl; answer = refl })
+  figure-refused f e = rw e (record { answered = refl; answer = refl })
 
 -- too few words of a state or of statistics are refused with 1, and an answer buffer of none with 2
 unfoldable pub figured : List ℕ → List ℕ → ℕ → Outcome → Outcome
@@ -120,7 +120,7 @@ module _ (e s a : List ℕ) (time bins longest : ℕ) where
   unfolding bars_of query_of
   bars-few h = rw (lt-ltb (length s) 25 h) (record { answered = refl; answer = record { kept = refl; bins = of_none bin_table a; rest = refl } })
 
-  pub bars-by : (a' : List ℕ) {st : Mempool} {o : ListOutcome} {n : ℕ} → 25 ≤ length s → st ≡ state_of s → Drawn a a' o (histogram_of e st (length a) time bins longest) → n ≡ query_of (listed_of o)
+  pub bars-by : (a' : List ℕ) {st : Mempool} {o : Result ℕ Refusal} {n : ℕ} → 25 ≤ length s → st ≡ state_of s → Drawn a a' o (histogram_of e st (length a) time bins longest) → n ≡ query_of (listed_of o)
       → Bars a a' n (bars_of e s (length a) time bins longest)
   unfolding bars_of
   bars-by a' h q d r = rw (le-ltb (length s) 25 h, ← q) (record { answered = r ∙ ap query_of d.outcome; answer = d.answer })

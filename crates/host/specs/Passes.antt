@@ -1,16 +1,16 @@
 -- What the exported calls of a pass and a rebroadcast leave, by the words of the C side. As for a submission, an outcome stands behind the number, and
 -- with it and the state that the words now hold the call's own contract is met.
+use Rattle.std.specs.Prelude.{Result}
+use Rattle.pool_types.specs.declared.Refusal.{Refusal}
 use Rattle.std.specs.Prelude.{ℕ, ◌-◌, ◌≤◌, ◌<◌, ◌≡◌, refl, true, false, not, List, [], ◌∷◌, leb, length, take, drop}
 use Rattle.std.proofs.Common.{ap, arith}
 use Rattle.words.specs.Lists.{pick}
 use Rattle.words.specs.Sums.{cap}
 use Rattle.pool_types.specs.declared.Mempool.{Mempool}
 use Rattle.pool_types.specs.declared.Verdict.{Verdict}
-use Rattle.pool_types.specs.declared.OpenOutcome.{OpenOutcome}
 use Rattle.pool_types.specs.declared.NextOutcome.{NextOutcome}
 use Rattle.pool_types.specs.declared.AnswerOutcome.{AnswerOutcome}
-use Rattle.pool_types.specs.declared.ListOutcome.{ListOutcome}
-use Rattle.pool_types.specs.Outcomes.{Outcome, refused, opened_of, next_of, answered_of, listed_of}
+use Rattle.pool_types.specs.Outcomes.{Outcome, refused, done_of, next_of, answered_of, listed_of}
 use Rattle.peers.specs.declared.PeerRecord.{PeerRecord}
 use Rattle.entries.specs.Layout.{entries_room}
 use Rattle.pool.specs.Pool.{fits_test}
@@ -49,16 +49,16 @@ passed z c = record { answered = c.answered; result = c.result; kept = z.kept; s
 -- ---- open
 
 -- what a refusal spares, whatever the words and records are
-abbrev pub OpenSpares : Mempool → Mempool → OpenOutcome → Type 0
-OpenSpares st r o = (e b k : List ℕ) (ys : List PeerRecord) (a : List ℕ) → Spares (opened_of o) (lent e b k ys a st) (lent e b k ys a r)
+abbrev pub OpenSpares : Mempool → Mempool → (Result Unit Refusal) → Type 0
+OpenSpares st r o = (e b k : List ℕ) (ys : List PeerRecord) (a : List ℕ) → Spares (done_of o) (lent e b k ys a st) (lent e b k ys a r)
 
 pub record Opening (s₀ s r₀ r : List ℕ) (time limit preheader code : ℕ) : Type 0 where
-  pub outcome : OpenOutcome
-  pub left : Passed s₀ s r₀ r (opened_of outcome) code
+  pub outcome : (Result Unit Refusal)
+  pub left : Passed s₀ s r₀ r (done_of outcome) code
   pub ours : of_open outcome ≡ true
-  pub post : OpenPromise (state_of s₀) time limit preheader (state_of s) (opened_of outcome)
+  pub post : OpenPromise (state_of s₀) time limit preheader (state_of s) (done_of outcome)
   pub spares : OpenSpares (state_of s₀) (state_of s) outcome
-  pub only : (w : World) → PassOnly (state_of s₀) (state_of s) (opened_of outcome) (opened w (pass_now (state_of s₀).pass) time limit preheader)
+  pub only : (w : World) → PassOnly (state_of s₀) (state_of s) (done_of outcome) (opened w (pass_now (state_of s₀).pass) time limit preheader)
 
 pub record OpenCall (s₀ s r₀ r : List ℕ) (time limit preheader code : ℕ) : Type 0 where
   pub short_state : length s₀ < 25 → Idle 1 code r₀ r (s₀ ∷ []) (s ∷ [])
@@ -74,13 +74,13 @@ module _ (s r₀ r : List ℕ) (time limit preheader : ℕ) {code : ℕ} where
 
 -- from what open says of the state that was read
 module _ (s₀ s r₀ r' : List ℕ) (time limit preheader : ℕ) {st : Mempool} (r : OpenedRecord) (h : 25 ≤ length s₀) (g : 16 ≤ length r₀) (f : st ≡ state_of s₀) (z : Stored s₀ s r.mempool)
-    (p : OpenPromise st time limit preheader r.mempool (opened_of r.outcome))
+    (p : OpenPromise st time limit preheader r.mempool (done_of r.outcome))
     (v : OpenSpares st r.mempool r.outcome)
-    (x : (w : World) → PassOnly st r.mempool (opened_of r.outcome) (opened w (pass_now st.pass) time limit preheader)) where
+    (x : (w : World) → PassOnly st r.mempool (done_of r.outcome) (opened w (pass_now st.pass) time limit preheader)) where
   open-held : World → state_of s ≡ r.mempool
   open-held w = stored-held z f (ap (λ (m : Mempool). m.config) (x w).state)
 
-  pub open-words : {code : ℕ} → of_open r.outcome ≡ true → Says r₀ r' (opened_of r.outcome) code → OpenCall s₀ s r₀ r' time limit preheader code
+  pub open-words : {code : ℕ} → of_open r.outcome ≡ true → Says r₀ r' (done_of r.outcome) code → OpenCall s₀ s r₀ r' time limit preheader code
   open-words o c =
       record {
         short_state = λ z. absurd (omega arith);
@@ -99,11 +99,11 @@ module _ (s₀ s r₀ r' : List ℕ) (time limit preheader : ℕ) {st : Mempool}
 
 -- ---- next: the candidate's id, or the sum, stands in the result record
 
-abbrev pub NextSpares : List ℕ → Mempool → Mempool → NextOutcome → Type 0
+abbrev pub NextSpares : List ℕ → Mempool → Mempool → (Result NextOutcome Refusal) → Type 0
 NextSpares e st r o = (b k : List ℕ) (ys : List PeerRecord) (a : List ℕ) → Spares (next_of o) (lent e b k ys a st) (lent e b k ys a r)
 
 pub record Offering (e s₀ s r₀ r : List ℕ) (code : ℕ) : Type 0 where
-  pub outcome : NextOutcome
+  pub outcome : (Result NextOutcome Refusal)
   pub left : Passed s₀ s r₀ r (next_of outcome) code
   pub ours : of_next outcome ≡ true
   pub post : NextPromise e (state_of s₀) (state_of s) (next_of outcome)
@@ -152,11 +152,11 @@ module _ (e s₀ s r₀ r' : List ℕ) {st : Mempool} (r : OfferedRecord) (h : 2
 
 -- ---- answer
 
-abbrev pub AnswerSpares : List ℕ → List ℕ → List ℕ → List ℕ → List ℕ → List ℕ → Mempool → Mempool → AnswerOutcome → Type 0
+abbrev pub AnswerSpares : List ℕ → List ℕ → List ℕ → List ℕ → List ℕ → List ℕ → Mempool → Mempool → (Result AnswerOutcome Refusal) → Type 0
 AnswerSpares e₀ e b₀ b k₀ k st r o = (ys : List PeerRecord) (a : List ℕ) → Spares (answered_of o) (lent e₀ b₀ k₀ ys a st) (lent e b k ys a r)
 
 pub record Answering (e₀ e b₀ b k₀ k s₀ s r₀ r flags : List ℕ) (v : Verdict) (code : ℕ) : Type 0 where
-  pub outcome : AnswerOutcome
+  pub outcome : (Result AnswerOutcome Refusal)
   pub left : Passed s₀ s r₀ r (answered_of outcome) code
   pub ours : of_answer outcome ≡ true
   pub post : AnswerPromise e₀ b₀ k₀ (state_of s₀) flags v e b k (state_of s) (answered_of outcome)
@@ -194,7 +194,7 @@ module _ (e₀ e b₀ b k₀ k s₀ s r₀ r' flags : List ℕ) (v : Verdict) {s
 -- ---- a rebroadcast, a query: how many ids were written, and refusal n as 2^64−1−n
 
 pub record Sending (e b a₀ a s confirmed : List ℕ) (code : ℕ) : Type 0 where
-  pub outcome : ListOutcome
+  pub outcome : (Result ℕ Refusal)
   pub answered : code ≡ query_of (listed_of outcome)
   pub ours : of_rebroadcast outcome ≡ true
   pub post : RebroadcastPromise e b (state_of s) confirmed a₀ a (listed_of outcome)
@@ -209,7 +209,7 @@ pub record RebroadcastCall (e b a₀ a s confirmed : List ℕ) (code : ℕ) : Ty
 pub rebroadcast-few : (e b a s confirmed : List ℕ) → length s < 25 → RebroadcastCall e b a a s confirmed (cap - 1)
 rebroadcast-few e b a s confirmed h = record { short = λ _. (refl, refl); ran = λ g. absurd (omega arith) }
 
-pub rebroadcast-words : (e b a₀ a s confirmed : List ℕ) {st : Mempool} (o : ListOutcome) {code : ℕ} → 25 ≤ length s → st ≡ state_of s → RebroadcastPromise e b st confirmed a₀ a (listed_of o) → of_rebroadcast o ≡ true
+pub rebroadcast-words : (e b a₀ a s confirmed : List ℕ) {st : Mempool} (o : (Result ℕ Refusal)) {code : ℕ} → 25 ≤ length s → st ≡ state_of s → RebroadcastPromise e b st confirmed a₀ a (listed_of o) → of_rebroadcast o ≡ true
     → Told a₀ a (listed_of o) → (fits_test e b st.counts ≡ false → listed_of o ≡ refused 1 0) → code ≡ query_of (listed_of o) → RebroadcastCall e b a₀ a s confirmed code
 rebroadcast-words e b a₀ a s confirmed o h f p d t x c =
     record { short = λ g. absurd (omega arith); ran = λ _. record { outcome = o; answered = c; ours = d; post = rw (← f) p; told = t; unfit = rw (← f) x } }

@@ -1,5 +1,10 @@
 -- What the exported queries answer: a number, and refusal n as 2^64−1−n, which no query answers otherwise (it is above every count of records
 -- that lent words hold). A listed entry stands in the answer buffer as crate mempool lays it.
+use Rattle.std.specs.Prelude.{Some}
+use Rattle.pool_types.specs.Refusals.{refusal_number}
+use Rattle.std.specs.Prelude.{Err, None, Ok, Option, Result}
+use Rattle.pool_types.specs.declared.Refusal.{Refusal}
+use Rattle.pool_types.specs.declared.PooledTx.{PooledTx}
 use Rattle.std.specs.Prelude.{ℕ, ◌-◌, ◌≤◌, ◌<◌, ◌≡◌, refl, true, List, [], ◌∷◌, ltb, length}
 use Rattle.std.proofs.Math.Path.{ap}
 use Rattle.std.proofs.Common.{◌∙◌}
@@ -11,9 +16,6 @@ use Rattle.words.specs.Rows.{stored}
 use Rattle.words.specs.Tables.{put-end, of_none}
 use Rattle.words.specs.declared.ids.Id.{Id}
 use Rattle.pool_types.specs.declared.Mempool.{Mempool}
-use Rattle.pool_types.specs.declared.ListOutcome.{ListOutcome}
-use Rattle.pool_types.specs.declared.EntryOutcome.{EntryOutcome}
-use Rattle.pool_types.specs.declared.EntryOutcome.TheVariants.{Entry, NoEntry, NotLooked}
 use Rattle.pool_types.specs.Outcomes.{Outcome, refused, done, wrote, needed, candidate, ended, missing, invalid, valid, number, said, entry, none, listed_of, looked_of}
 use Rattle.mempool.specs.Queries.{spending_of, spending_with, entry_seen}
 use Rattle.mempool.specs.Listing.{Row, rows, row_words, Laid, Listing, listing, top_of, Topped, RowPut, row_put, laid_none}
@@ -87,7 +89,7 @@ spent_by f s words =
 abbrev pub spent_of : List ℕ → List ℕ → List ℕ → ℕ → ℕ → Listing
 spent_of e b s words box = spent_by (λ st. spending_of e b st box) s words
 
-abbrev pub spent_with : List ℕ → List ℕ → List ℕ → ℕ → EntryOutcome → Listing
+abbrev pub spent_with : List ℕ → List ℕ → List ℕ → ℕ → Result (Option PooledTx) Refusal → Listing
 spent_with e b s words o = spent_by (λ st. spending_with e b st (entry_seen o)) s words
 
 -- the first entries, as `top` lists them
@@ -105,7 +107,7 @@ module _ (e s a : List ℕ) (limit : ℕ) where
   unfolding topped_of
   top-short h = rows-refused a 1 _ (rw (lt-ltb _ _ h))
 
-  pub top-by : (a' : List ℕ) {st : Mempool} {o : ListOutcome} {n : ℕ} → 25 ≤ length s → st ≡ state_of s → Topped a a' o (top_of e st (length a) limit) → n ≡ query_of (listed_of o) → Rows a a' n (topped_of e s (length a) limit)
+  pub top-by : (a' : List ℕ) {st : Mempool} {o : Result ℕ Refusal} {n : ℕ} → 25 ≤ length s → st ≡ state_of s → Topped a a' o (top_of e st (length a) limit) → n ≡ query_of (listed_of o) → Rows a a' n (topped_of e s (length a) limit)
   unfolding topped_of
   top-by a' h q t r = rw (le-ltb (length s) 25 h, ← q) (record { answered = r ∙ ap query_of t.outcome; answer = t.answer })
 
@@ -125,19 +127,19 @@ module _ (f : Mempool → Outcome) (s a : List ℕ) where
   unfolding spent_by
   spent-room h g = rows-refused a 2 _ (rw (le-ltb _ _ h, lt-ltb _ _ g))
 
-  module _ (h : 25 ≤ length s) (g : 6 ≤ length a) {st : Mempool} (o : EntryOutcome) (q : st ≡ state_of s) (r : looked_of o ≡ f st) where
+  module _ (h : 25 ≤ length s) (g : 6 ≤ length a) {st : Mempool} (o : Result (Option PooledTx) Refusal) (q : st ≡ state_of s) (r : looked_of o ≡ f st) where
     is : spent_by f s (length a) ≡ listing (looked_of o) (rows_in (looked_of o))
     unfolding spent_by
     is = rw (le-ltb (length s) 25 h, le-ltb (length a) 6 g, ← q, ← r)
 
-    pub spent-entry : (a' : List ℕ) (x : Id) (w v : ℕ) → o ≡ Entry x w v → a' ≡ stored a 0 (row_words x w v) → Rows a a' 1 (spent_by f s (length a))
+    pub spent-entry : (a' : List ℕ) (x : PooledTx) → o ≡ Ok (Some x) → a' ≡ stored a 0 (row_words x.id x.weight x.base) → Rows a a' 1 (spent_by f s (length a))
     unfolding query_of looked_of
-    spent-entry a' x w v d z = rw (is, d, z) (record { answered = refl; answer = first-row a x w v g })
+    spent-entry a' x d z = rw (is, d, z) (record { answered = refl; answer = first-row a x.id x.weight x.base g })
 
-    pub spent-none : o ≡ NoEntry → Rows a a 0 (spent_by f s (length a))
+    pub spent-none : o ≡ Ok None → Rows a a 0 (spent_by f s (length a))
     unfolding query_of looked_of
     spent-none d = rw (is, d) (record { answered = refl; answer = laid_none a })
 
-    pub spent-refused : (n : ℕ) → o ≡ NotLooked n → Rows a a (cap - n) (spent_by f s (length a))
+    pub spent-refused : (why : Refusal) → o ≡ Err why → Rows a a (cap - refusal_number why) (spent_by f s (length a))
     unfolding looked_of
-    spent-refused n d = rows-refused a n _ (is ∙ rw d)
+    spent-refused why d = rows-refused a (refusal_number why) _ (is ∙ rw d)

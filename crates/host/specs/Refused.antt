@@ -1,24 +1,19 @@
 -- A refusal as words: "Unless said, nothing changes and no answer byte is written." A number that says no success, and 'verdict needed' as well, leaves
 -- every word that was lent, and every word of the state. Of a submission 9, 10, 29 and 30 are apart: `Spares` says what they leave.
+use Rattle.std.specs.Prelude.{Err, Ok, Result}
+use Rattle.pool_types.specs.declared.Refusal.{Refusal}
+use Rattle.pool_types.specs.Refusals.{refusal_number}
 use Rattle.std.specs.Prelude.{ℕ, ◌≡◌, true, false, List, [], ◌∷◌, eqb}
 use Rattle.std.proofs.Math.Path.{refl}
 use Rattle.std.proofs.Common.{sym, ap, ◌∙◌, arith, ne_eqb}
 use Rattle.pool_types.specs.declared.Verdict.{Verdict}
 use Rattle.pool_types.specs.declared.ProcessingOutcome.{ProcessingOutcome}
 use Rattle.pool_types.specs.declared.ProcessingOutcome.TheVariants.{Accepted, Replaced, DoubleSpendLoser, VerdictNeeded, Declined}
-use Rattle.pool_types.specs.declared.ReturnOutcome.{ReturnOutcome}
-use Rattle.pool_types.specs.declared.ReturnOutcome.TheVariants.{Returned, NotReturned}
-use Rattle.pool_types.specs.declared.InvalidateOutcome.{InvalidateOutcome}
-use Rattle.pool_types.specs.declared.InvalidateOutcome.TheVariants.{Invalidated, NotInvalidated}
-use Rattle.pool_types.specs.declared.BlockOutcome.{BlockOutcome}
-use Rattle.pool_types.specs.declared.BlockOutcome.TheVariants.{Removed, NotApplied}
-use Rattle.pool_types.specs.declared.OpenOutcome.{OpenOutcome}
-use Rattle.pool_types.specs.declared.OpenOutcome.TheVariants.{Opened, NotOpened}
 use Rattle.pool_types.specs.declared.NextOutcome.{NextOutcome}
-use Rattle.pool_types.specs.declared.NextOutcome.TheVariants.{Candidate, Ended, NoPass}
+use Rattle.pool_types.specs.declared.NextOutcome.TheVariants.{Candidate, Ended}
 use Rattle.pool_types.specs.declared.AnswerOutcome.{AnswerOutcome}
-use Rattle.pool_types.specs.declared.AnswerOutcome.TheVariants.{InputMissing, AnswerNeeded, FoundInvalid, FoundValid, NotAnswered}
-use Rattle.pool_types.specs.Outcomes.{processed_of, returned_of, invalidated_of, block_of, opened_of, next_of, answered_of}
+use Rattle.pool_types.specs.declared.AnswerOutcome.TheVariants.{InputMissing, AnswerNeeded, FoundInvalid, FoundValid}
+use Rattle.pool_types.specs.Outcomes.{processed_of, done_of, listed_of, next_of, answered_of}
 use Rattle.boxes.specs.Among.{among}
 use Rattle.store.specs.Spares.{Spared, spared-all}
 use Rattle.store.specs.Spares.{Lent as Held}
@@ -80,8 +75,8 @@ module _ {w₀ w : Lent} {s₀ s r₀ r sub ins outs : List ℕ} {code : ℕ} (x
       go (DoubleSpendLoser n) q = none 29 refl (x.left.answered ∙ rw q)
       go VerdictNeeded q = x.spares.asked (rw q)
       go (Declined n) q =
-          let e : code ≡ n = x.left.answered ∙ rw q in
-          nothing n (other n 9 e refl) (other n 10 e refl) (other n 29 e refl) (other n 30 e refl) (x.spares.refusal n 0 (rw q))
+          let e : code ≡ (refusal_number n) = x.left.answered ∙ rw q in
+          nothing (refusal_number n) (other (refusal_number n) 9 e refl) (other (refusal_number n) 10 e refl) (other (refusal_number n) 29 e refl) (other (refusal_number n) 30 e refl) (x.spares.refusal (refusal_number n) 0 (rw q))
 
   pub submit-refused : Left w₀ w s₀ s
   submit-refused =
@@ -98,58 +93,58 @@ module _ {w₀ w : Lent} {s₀ s r₀ r sub ins outs : List ℕ} {code : ℕ} (x
 -- ---- a return
 
 pub return_refused : {e₀ e b₀ b s₀ s r₀ r tx ins outs : List ℕ} {code : ℕ} → Returning e₀ e b₀ b s₀ s r₀ r tx ins outs code → (code ≡ 0 → ⊥) → (e ≡ e₀) × (b ≡ b₀) × (s ≡ s₀)
-unfolding returned_of code_of of_return
+unfolding done_of code_of of_return
 return_refused {e₀} {e} {b₀} {b} {s₀} {s} {code = code} x z = go x.outcome refl
   where
-    go : (o : ReturnOutcome) → x.outcome ≡ o → (e ≡ e₀) × (b ≡ b₀) × (s ≡ s₀)
-    go Returned q = absurd (z (x.left.answered ∙ rw q))
-    go (NotReturned n) q =
-        let h = plain return_refusals n (rw q at x.ours) refl refl refl refl ((x.spares [] [] []).refusal n 0 (rw q)) in
+    go : (o : (Result Unit Refusal)) → x.outcome ≡ o → (e ≡ e₀) × (b ≡ b₀) × (s ≡ s₀)
+    go (Ok tt) q = absurd (z (x.left.answered ∙ rw q))
+    go (Err n) q =
+        let h = plain return_refusals (refusal_number n) (rw q at x.ours) refl refl refl refl ((x.spares [] [] []).refusal (refusal_number n) 0 (rw q)) in
         (ap (λ (m : Held). m.entries) h, ap (λ (m : Held). m.boxes) h, x.left.spared (ap (λ (m : Held). m.state) h))
 
 -- ---- an invalidation
 
 pub invalidate-refused : {e₀ e b₀ b k₀ k s₀ s r₀ r : List ℕ} {time id code : ℕ} → Invalidating e₀ e b₀ b k₀ k s₀ s r₀ r time id code → (code ≡ 0 → ⊥) → (e ≡ e₀) × (b ≡ b₀) × (k ≡ k₀) × (s ≡ s₀)
-unfolding invalidated_of code_of of_invalidation
+unfolding done_of code_of of_invalidation
 invalidate-refused {e₀} {e} {b₀} {b} {k₀} {k} {s₀} {s} x z = go x.outcome refl
   where
-    go : (o : InvalidateOutcome) → x.outcome ≡ o → (e ≡ e₀) × (b ≡ b₀) × (k ≡ k₀) × (s ≡ s₀)
-    go Invalidated q = absurd (z (x.left.answered ∙ rw q))
-    go (NotInvalidated n) q =
-        let h = plain (20 ∷ 1 ∷ []) n (rw q at x.ours) refl refl refl refl ((x.spares [] []).refusal n 0 (rw q)) in
+    go : (o : (Result Unit Refusal)) → x.outcome ≡ o → (e ≡ e₀) × (b ≡ b₀) × (k ≡ k₀) × (s ≡ s₀)
+    go (Ok tt) q = absurd (z (x.left.answered ∙ rw q))
+    go (Err n) q =
+        let h = plain (20 ∷ 1 ∷ []) (refusal_number n) (rw q at x.ours) refl refl refl refl ((x.spares [] []).refusal (refusal_number n) 0 (rw q)) in
         (ap (λ (m : Held). m.entries) h, ap (λ (m : Held). m.boxes) h, ap (λ (m : Held). m.cache) h, x.left.spared (ap (λ (m : Held). m.state) h))
 
 -- ---- a block
 
 pub block_refused : {e₀ e b₀ b k₀ k a₀ a s₀ s t₀ t r₀ r : List ℕ} {time : ℕ} {txs ins : List ℕ} {code : ℕ} → Blocking e₀ e b₀ b k₀ k a₀ a s₀ s t₀ t r₀ r time txs ins code → (code ≡ 100 → ⊥)
     → (e ≡ e₀) × (b ≡ b₀) × (k ≡ k₀) × (a ≡ a₀) × (t ≡ t₀) × (s ≡ s₀)
-unfolding block_of code_of of_block
+unfolding listed_of code_of of_block
 block_refused {e₀} {e} {b₀} {b} {k₀} {k} {a₀} {a} {s₀} {s} {t₀} {t} x z = go x.outcome refl
   where
-    go : (o : BlockOutcome) → x.outcome ≡ o → (e ≡ e₀) × (b ≡ b₀) × (k ≡ k₀) × (a ≡ a₀) × (t ≡ t₀) × (s ≡ s₀)
-    go (Removed n) q = absurd (z (x.left.answered ∙ rw q))
-    go (NotApplied n) q =
-        let h = plain (20 ∷ 1 ∷ 2 ∷ []) n (rw q at x.ours) refl refl refl refl ((x.spares []).refusal n 0 (rw q)) in
-        (ap (λ (m : Held). m.entries) h, ap (λ (m : Held). m.boxes) h, ap (λ (m : Held). m.cache) h, ap (λ (m : Held). m.answer) h, x.spared n 0 (rw q), x.left.spared (ap (λ (m : Held). m.state) h))
+    go : (o : (Result ℕ Refusal)) → x.outcome ≡ o → (e ≡ e₀) × (b ≡ b₀) × (k ≡ k₀) × (a ≡ a₀) × (t ≡ t₀) × (s ≡ s₀)
+    go (Ok n) q = absurd (z (x.left.answered ∙ rw q))
+    go (Err n) q =
+        let h = plain (20 ∷ 1 ∷ 2 ∷ []) (refusal_number n) (rw q at x.ours) refl refl refl refl ((x.spares []).refusal (refusal_number n) 0 (rw q)) in
+        (ap (λ (m : Held). m.entries) h, ap (λ (m : Held). m.boxes) h, ap (λ (m : Held). m.cache) h, ap (λ (m : Held). m.answer) h, x.spared (refusal_number n) 0 (rw q), x.left.spared (ap (λ (m : Held). m.state) h))
 
 -- ---- the calls of a pass
 
 pub open-refused : {s₀ s r₀ r : List ℕ} {time limit preheader code : ℕ} → Opening s₀ s r₀ r time limit preheader code → (code ≡ 0 → ⊥) → s ≡ s₀
-unfolding opened_of code_of of_open
+unfolding done_of code_of of_open
 open-refused {s₀} {s} x z = go x.outcome refl
   where
-    go : (o : OpenOutcome) → x.outcome ≡ o → s ≡ s₀
-    go Opened q = absurd (z (x.left.answered ∙ rw q))
-    go (NotOpened n) q = x.left.spared (ap (λ (m : Held). m.state) (plain (20 ∷ []) n (rw q at x.ours) refl refl refl refl ((x.spares [] [] [] [] []).refusal n 0 (rw q))))
+    go : (o : (Result Unit Refusal)) → x.outcome ≡ o → s ≡ s₀
+    go (Ok tt) q = absurd (z (x.left.answered ∙ rw q))
+    go (Err n) q = x.left.spared (ap (λ (m : Held). m.state) (plain (20 ∷ []) (refusal_number n) (rw q at x.ours) refl refl refl refl ((x.spares [] [] [] [] []).refusal (refusal_number n) 0 (rw q))))
 
 pub next-refused : {e s₀ s r₀ r : List ℕ} {code : ℕ} → Offering e s₀ s r₀ r code → (code ≡ 102 → ⊥) → (code ≡ 103 → ⊥) → s ≡ s₀
 unfolding next_of code_of of_next
 next-refused {s₀ = s₀} {s = s} x y z = go x.outcome refl
   where
-    go : (o : NextOutcome) → x.outcome ≡ o → s ≡ s₀
-    go (Candidate n) q = absurd (y (x.left.answered ∙ rw q))
-    go (Ended n) q = absurd (z (x.left.answered ∙ rw q))
-    go (NoPass n) q = x.left.spared (ap (λ (m : Held). m.state) (plain (21 ∷ 1 ∷ []) n (rw q at x.ours) refl refl refl refl ((x.spares [] [] [] []).refusal n 0 (rw q))))
+    go : (o : (Result NextOutcome Refusal)) → x.outcome ≡ o → s ≡ s₀
+    go (Ok (Candidate n)) q = absurd (y (x.left.answered ∙ rw q))
+    go (Ok (Ended n)) q = absurd (z (x.left.answered ∙ rw q))
+    go (Err n) q = x.left.spared (ap (λ (m : Held). m.state) (plain (21 ∷ 1 ∷ []) (refusal_number n) (rw q at x.ours) refl refl refl refl ((x.spares [] [] [] []).refusal (refusal_number n) 0 (rw q))))
 
 pub answer-refused : {e₀ e b₀ b k₀ k s₀ s r₀ r flags : List ℕ} {v : Verdict} {code : ℕ} → Answering e₀ e b₀ b k₀ k s₀ s r₀ r flags v code → among code (104 ∷ 105 ∷ 106 ∷ []) ≡ false
     → (e ≡ e₀) × (b ≡ b₀) × (k ≡ k₀) × (s ≡ s₀)
@@ -163,9 +158,9 @@ answer-refused {e₀} {e} {b₀} {b} {k₀} {k} {s₀} {s} {code = code} x z = g
     none : (n : ℕ) → among n (104 ∷ 105 ∷ 106 ∷ []) ≡ true → code ≡ n → {A : Type 0} → A
     none n h q = differ (sym z ∙ ap (λ (i : ℕ). among i (104 ∷ 105 ∷ 106 ∷ [])) q ∙ h)
 
-    go : (o : AnswerOutcome) → x.outcome ≡ o → (e ≡ e₀) × (b ≡ b₀) × (k ≡ k₀) × (s ≡ s₀)
-    go (InputMissing n) q = none 104 refl (x.left.answered ∙ rw q)
-    go AnswerNeeded q = all (λ a. (x.spares [] a).asked (rw q))
-    go (FoundInvalid n) q = none 105 refl (x.left.answered ∙ rw q)
-    go (FoundValid n) q = none 106 refl (x.left.answered ∙ rw q)
-    go (NotAnswered n) q = all (λ a. plain (21 ∷ 1 ∷ []) n (rw q at x.ours) refl refl refl refl ((x.spares [] a).refusal n 0 (rw q)))
+    go : (o : (Result AnswerOutcome Refusal)) → x.outcome ≡ o → (e ≡ e₀) × (b ≡ b₀) × (k ≡ k₀) × (s ≡ s₀)
+    go (Ok (InputMissing n)) q = none 104 refl (x.left.answered ∙ rw q)
+    go (Ok AnswerNeeded) q = all (λ a. (x.spares [] a).asked (rw q))
+    go (Ok (FoundInvalid n)) q = none 105 refl (x.left.answered ∙ rw q)
+    go (Ok (FoundValid n)) q = none 106 refl (x.left.answered ∙ rw q)
+    go (Err n) q = all (λ a. plain (21 ∷ 1 ∷ []) (refusal_number n) (rw q at x.ours) refl refl refl refl ((x.spares [] a).refusal (refusal_number n) 0 (rw q)))

@@ -8,7 +8,7 @@ use Rattle.std.proofs.lemmas.List.Edits.{sets}
 use borrow.Author.Tests.{ltb-false, lt-ltb, le-ltb}
 use Rattle.words.specs.Lists.{pick}
 use Rattle.words.specs.Ids.{id_words}
-use Rattle.words.specs.Rows.{stored}
+use Rattle.words.specs.Rows.{stored, stored-sets}
 use Rattle.pool_types.specs.Outcomes.{Outcome, refused, done}
 use Rattle.host.specs.Codes.{code_of, about_of, sum_of, four_of, sheet, result_of}
 use Rattle.pool_types.specs.Outcomes.{written_of}
@@ -51,10 +51,9 @@ pub puts_none : (r : List ℕ) (t : Told) → length r < 16 → Puts r r t t.cod
 unfolding filled
 puts_none r t h = record { answered = refl; result = rw (lt-ltb (length r) 16 h) }
 
-pub puts-all : (r m : List ℕ) (t : Told) → 16 ≤ length r → m ≡ stored (set (set r 0 t.code) 1 t.written) 2 (id_words t.id)
-    → Puts r (set (set (set (set (set (set (set (set (set (set m 6 t.sum) 7 0) 8 0) 9 0) 10 0) 11 0) 12 0) 13 0) 14 0) 15 0) t t.code
-unfolding filled told_words
-puts-all r m t h q = record { answered = refl; result = rw (le-ltb (length r) 16 h, q) }
+pub puts-all : (r m : List ℕ) (t : Told) → 16 ≤ length r → m ≡ stored r 0 (told_words t) → Puts r m t t.code
+unfolding filled
+puts-all r m t h q = record { answered = refl; result = q ∙ stored-sets (told_words t) r 0 ∙ rw (le-ltb (length r) 16 h) }
 
 pub lacks-list : (m need room : ℕ) → m < need → true ≡ lacking m need room
 unfolding lacking

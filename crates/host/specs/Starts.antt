@@ -1,4 +1,8 @@
 -- What an exported start leaves: the answer of start to the settings, the words of an empty pool, and empty statistics.
+use Rattle.pool_types.specs.declared.Refusal.TheVariants.{Settings}
+use Rattle.std.specs.Prelude.{Err, Ok, Result}
+use Rattle.pool_types.specs.declared.Refusal.{Refusal}
+use Rattle.pool_types.specs.Refusals.{refusal_number}
 use Rattle.std.specs.Prelude.{ℕ, ◌+◌, ◌≤◌, ◌<◌, ◌≡◌, Bool, List, [], ◌∷◌, get_or, set}
 use Rattle.std.proofs.Math.Path.{refl}
 use Rattle.std.proofs.Common.{sym, ap, ◌∙◌, arith, length-set, get_or-set_same, get_or-set_other}
@@ -10,8 +14,6 @@ use borrow.Author.Tests.{ltb-false, lt-ltb, le-ltb}
 use Rattle.words.specs.Lists.{pick}
 use Rattle.pool_types.specs.declared.Mempool.{Mempool}
 use Rattle.pool_types.specs.declared.MempoolConfig.{MempoolConfig}
-use Rattle.pool_types.specs.declared.StartOutcome.{StartOutcome}
-use Rattle.pool_types.specs.declared.StartOutcome.TheVariants.{Ready, NotStarted}
 use Rattle.pool_types.specs.Outcomes.{done, refused}
 use Rattle.stats.specs.Stats.{fresh}
 use Rattle.stats.specs.declared.FeeStats.{FeeStats}
@@ -104,9 +106,9 @@ pub record Emptied (st : Mempool) (time : ℕ) (g t₀ t s₀ s r₀ r : List �
   pub words : Begun g s₀ s
   pub stats : Restored t₀ t (fresh time)
 
-unfoldable pub Answered : StartOutcome → ℕ → List ℕ → List ℕ → List ℕ → List ℕ → List ℕ → List ℕ → List ℕ → ℕ → Type 0
-Answered (Ready st) time g t₀ t s₀ s r₀ r code = Emptied st time g t₀ t s₀ s r₀ r code
-Answered (NotStarted n) time g t₀ t s₀ s r₀ r code = Idle n code r₀ r (t₀ ∷ s₀ ∷ []) (t ∷ s ∷ [])
+unfoldable pub Answered : Result Mempool Refusal → ℕ → List ℕ → List ℕ → List ℕ → List ℕ → List ℕ → List ℕ → List ℕ → ℕ → Type 0
+Answered (Ok st) time g t₀ t s₀ s r₀ r code = Emptied st time g t₀ t s₀ s r₀ r code
+Answered (Err n) time g t₀ t s₀ s r₀ r code = Idle (refusal_number n) code r₀ r (t₀ ∷ s₀ ∷ []) (t ∷ s ∷ [])
 
 -- the sizes of the lent words, and how many peer records are lent
 abbrev pub sizes_of : List ℕ → List ℕ → List ℕ → ℕ → Sizes
@@ -122,17 +124,17 @@ pub record Started (time : ℕ) (g e b k : List ℕ) (p : ℕ) (t₀ t s₀ s r�
   pub begun : scant g t₀ s₀ r₀ ≡ false → Answered (started (sizes_of e b k p) (config_of g)) time g t₀ t s₀ s r₀ r code
 
 -- a start that is ready hands back the empty state
-ready-empty : (z : Sizes) (c : MempoolConfig) (st : Mempool) → started z c ≡ Ready st → empty c ≡ st
+ready-empty : (z : Sizes) (c : MempoolConfig) (st : Mempool) → started z c ≡ Ok st → empty c ≡ st
 unfolding started
 ready-empty z c st q = go (sized z) (settled z c) q
   where
-    differ : (n : ℕ) → NotStarted n ≡ Ready st → ⊥
-    differ n e = let x : ◌≡◌ {A = ℕ} 0 1 = cc in omega arith
+    differ : (f : Refusal) → Err f ≡ Ok st → ⊥
+    differ f e = let x : ◌≡◌ {A = ℕ} 0 1 = cc in omega arith
 
-    go : (a b : Bool) → pick a (pick b (Ready (empty c)) (NotStarted 6)) (NotStarted 6) ≡ Ready st → empty c ≡ st
+    go : (a b : Bool) → pick a (pick b (Ok (empty c)) (Err Settings)) (Err Settings) ≡ Ok st → empty c ≡ st
     go true true e = cc
-    go true false e = absurd (differ 6 e)
-    go false b e = absurd (differ 6 e)
+    go true false e = absurd (differ Settings e)
+    go false b e = absurd (differ Settings e)
 
 differ : {A : Type 0} {x : Bool} → x ≡ true → x ≡ false → A
 differ p q = let z : ◌≡◌ {A = ℕ} 0 1 = cc in absurd (omega arith)
@@ -165,8 +167,8 @@ module _ (time : ℕ) (g e b k : List ℕ) (p : ℕ) (t₀ s₀ r₀ r : List �
   pub start-short : x ≡ true → Says r₀ r (refused 1 0) code → Started time g e b k p t₀ t₀ s₀ s₀ r₀ r code
   start-short q c = record { short = λ _. idle _ refl c; begun = λ f. differ (sym h ∙ q) f }
 
-  module _ (q : x ≡ false) {c : MempoolConfig} {o : StartOutcome} (f : c ≡ config_of g) (z : o ≡ started (sizes_of e b k p) c) where
-    pub start-ready : (t s : List ℕ) {v : FeeStats} (st : Mempool) → o ≡ Ready st → Begun g s₀ s → v ≡ fresh time → Restored t₀ t v → Says r₀ r done code → Started time g e b k p t₀ t s₀ s r₀ r code
+  module _ (q : x ≡ false) {c : MempoolConfig} {o : Result Mempool Refusal} (f : c ≡ config_of g) (z : o ≡ started (sizes_of e b k p) c) where
+    pub start-ready : (t s : List ℕ) {v : FeeStats} (st : Mempool) → o ≡ Ok st → Begun g s₀ s → v ≡ fresh time → Restored t₀ t v → Says r₀ r done code → Started time g e b k p t₀ t s₀ s r₀ r code
     unfolding Answered code_of
     start-ready t s st d m n y w =
         record {
@@ -177,6 +179,6 @@ module _ (time : ℕ) (g e b k : List ℕ) (p : ℕ) (t₀ s₀ r₀ r : List �
               (record { answered = w.answered; result = w.result; state = begun-state g s₀ s m ∙ rw (← f) (ready-empty (sizes_of e b k p) c st (sym z ∙ d)); words = m; stats = rw (← n) y });
         }
 
-    pub start-refused : (n : ℕ) → o ≡ NotStarted n → Says r₀ r (refused n 0) code → Started time g e b k p t₀ t₀ s₀ s₀ r₀ r code
+    pub start-refused : (why : Refusal) → o ≡ Err why → Says r₀ r (refused (refusal_number why) 0) code → Started time g e b k p t₀ t₀ s₀ s₀ r₀ r code
     unfolding Answered
-    start-refused n d w = record { short = λ u. differ u (sym h ∙ q); begun = λ _. rw (← f, ← z, d) (idle _ refl w) }
+    start-refused why d w = record { short = λ u. differ u (sym h ∙ q); begun = λ _. rw (← f, ← z, d) (idle _ refl w) }

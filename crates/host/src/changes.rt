@@ -3,10 +3,11 @@ ghost use Rattle.std.specs.Prelude.{◌≤◌, length};
 ghost use Rattle.words.specs.Ids.{id_of};
 ghost use Rattle.host.specs.Changes.{ReturnCall, InvalidateCall, Blocking, BlockCall};
 
-use crate::codes::{RESULT_WORDS, block_told, invalidate_told, lacks, put, refuse, return_told};
+use crate::codes::{RESULT_WORDS, lacks, put, refuse};
 use crate::layout::{STATE_WORDS, TX_WORDS, load_state, load_tx, store_left, too_few};
 use crate::statistics::{STATS_WORDS, load_stats, store_stats};
 use blocks::apply_block_by_value;
+use pool_types::Refusal;
 use returns::{invalidate, return_to_pool};
 use words::ids::Id;
 
@@ -24,7 +25,7 @@ pub extern "C" fn gunthyd_return_to_pool(
     ensures { ReturnCall entries.old entries.new boxes.old boxes.new state.old state.new res.old res.new tx.now inputs.now outputs.now result }
 {
     if state.len() < STATE_WORDS {
-        return refuse(res, 1);
+        return refuse(res, Refusal::Lists);
     }
     if lacks(tx.len(), TX_WORDS, res.len()) {
         return refuse(res, too_few(state));
@@ -35,7 +36,7 @@ pub extern "C" fn gunthyd_return_to_pool(
     let left = returned.mempool;
     let outcome = returned.outcome;
     store_left(state, left);
-    put(res, return_told(outcome))
+    put(res, outcome.into())
 }
 
 // Takes a transaction out of the pool, where it is there, and remembers its id as invalid.
@@ -55,7 +56,7 @@ pub extern "C" fn gunthyd_invalidate(
     ensures { InvalidateCall entries.old entries.new boxes.old boxes.new cache.old cache.new state.old state.new res.old res.new time (id_of (record { a = a; b = b; c = c; d = d })) result }
 {
     if state.len() < STATE_WORDS {
-        return refuse(res, 1);
+        return refuse(res, Refusal::Lists);
     }
     if res.len() < RESULT_WORDS {
         return refuse(res, too_few(state));
@@ -65,7 +66,7 @@ pub extern "C" fn gunthyd_invalidate(
     let left = invalidated.mempool;
     let outcome = invalidated.outcome;
     store_left(state, left);
-    put(res, invalidate_told(outcome))
+    put(res, outcome.into())
 }
 
 // ---- a block
@@ -106,7 +107,7 @@ fn apply(
     let outcome = applied.outcome;
     store_stats(stats, after);
     store_left(state, left);
-    put(res, block_told(outcome))
+    put(res, outcome.into())
 }
 
 // Applies a block.
@@ -127,7 +128,7 @@ pub extern "C" fn gunthyd_apply_block_at(
         state.old state.new stats.old stats.new res.old res.new time transactions.now inputs.now result }
 {
     if state.len() < STATE_WORDS {
-        return refuse(res, 1);
+        return refuse(res, Refusal::Lists);
     }
     if lacks(stats.len(), STATS_WORDS, res.len()) {
         return refuse(res, too_few(state));

@@ -1,26 +1,53 @@
 // What a call answers the C side: one number for each outcome, and the result record, which says the rest.
-ghost use Rattle.std.specs.Prelude.{◌≡◌};
+ghost use Rattle.std.specs.Prelude.{◌≡◌, ◌-◌};
 ghost use Rattle.words.specs.Ids.{id_of};
-ghost use Rattle.pool_types.specs.Outcomes.{refused, processed_of, returned_of, invalidated_of, block_of, opened_of, next_of, answered_of, tested_of, listed_of};
+ghost use Rattle.words.specs.Sums.{cap};
+ghost use Rattle.pool_types.specs.Refusals.{refusal_number};
+ghost use Rattle.pool_types.specs.Outcomes.{refused, processed_of, done_of, next_of, answered_of, tested_of, listed_of};
 ghost use Rattle.host.specs.Codes.{four_of, sheet, result_of};
 ghost use Rattle.host.specs.Results.{told_words, lacking, Puts, Says};
 ghost use Rattle.host.specs.Queries.{query_of};
 
-use pool_types::{
-    AnswerOutcome, BlockOutcome, InvalidateOutcome, ListOutcome, NextOutcome, OpenOutcome,
-    ProcessingOutcome, ReturnOutcome, TestOutcome,
-};
-use words::ids::{Id, put_id};
+use pool_types::{AnswerOutcome, NextOutcome, ProcessingOutcome, Refusal};
+use words::ids::Id;
+use words::rows::put_words;
 
 pub const RESULT_WORDS: usize = 16;
 
-// What a result record says: the number, how many ids were written, the id spoken of, and a sum.
+// What a result record says: the number that C sees, how many ids were written, the id spoken of, and a sum.
 #[derive(Clone, Copy)]
 pub struct Told {
     code: u64,
     written: u64,
     id: Id,
     sum: u64,
+}
+
+impl Told {
+    // The words of the record. The last nine are kept for later.
+    fn words(&self) -> [u64; RESULT_WORDS]
+        ensures { result ≡ told_words self.now }
+    {
+        let id = self.id;
+        [
+            self.code,
+            self.written,
+            id.a,
+            id.b,
+            id.c,
+            id.d,
+            self.sum,
+            0,
+            0,
+            0,
+            0,
+            0,
+            0,
+            0,
+            0,
+            0,
+        ]
+    }
 }
 
 // ---- by what there is to say
@@ -43,6 +70,13 @@ pub fn plain(code: u64, written: u64, sum: u64) -> Told
     }
 }
 
+// A refusal's number.
+fn declined(refusal: Refusal) -> Told
+    ensures { told_words result ≡ sheet (refusal_number refusal) 0 (four_of 0) 0 }
+{
+    plain(refusal.into(), 0, 0)
+}
+
 // Of an id alone.
 fn of_id(code: u64, id: Id) -> Told
     ensures { told_words result ≡ sheet code 0 (four_of (id_of id)) 0 }
@@ -57,73 +91,71 @@ fn of_id(code: u64, id: Id) -> Told
 
 // ---- by outcome
 
-pub fn process_told(outcome: ProcessingOutcome) -> Told
-    ensures { told_words result ≡ result_of (processed_of outcome) }
-{
-    match outcome {
-        ProcessingOutcome::Accepted => plain(0, 0, 0),
-        ProcessingOutcome::Replaced(n) => plain(100, n as u64, 0),
-        ProcessingOutcome::DoubleSpendLoser(n) => plain(29, n as u64, 0),
-        ProcessingOutcome::VerdictNeeded => plain(101, 0, 0),
-        ProcessingOutcome::Declined(n) => plain(n, 0, 0),
+impl From<ProcessingOutcome> for Told {
+    ghost from_gives = { λ outcome told. told_words told ≡ result_of (processed_of outcome) };
+
+    fn from(outcome: ProcessingOutcome) -> Told {
+        match outcome {
+            ProcessingOutcome::Accepted => plain(0, 0, 0),
+            ProcessingOutcome::Replaced(n) => plain(100, n as u64, 0),
+            ProcessingOutcome::DoubleSpendLoser(n) => plain(29, n as u64, 0),
+            ProcessingOutcome::VerdictNeeded => plain(101, 0, 0),
+            ProcessingOutcome::Declined(refusal) => declined(refusal),
+        }
     }
 }
 
-pub fn return_told(outcome: ReturnOutcome) -> Told
-    ensures { told_words result ≡ result_of (returned_of outcome) }
-{
-    match outcome {
-        ReturnOutcome::Returned => plain(0, 0, 0),
-        ReturnOutcome::NotReturned(n) => plain(n, 0, 0),
+// A return, an invalidation, an opening.
+impl From<Result<(), Refusal>> for Told {
+    ghost from_gives = { λ outcome told. told_words told ≡ result_of (done_of outcome) };
+
+    fn from(outcome: Result<(), Refusal>) -> Told {
+        match outcome {
+            Ok(()) => plain(0, 0, 0),
+            Err(refusal) => declined(refusal),
+        }
     }
 }
 
-pub fn invalidate_told(outcome: InvalidateOutcome) -> Told
-    ensures { told_words result ≡ result_of (invalidated_of outcome) }
-{
-    match outcome {
-        InvalidateOutcome::Invalidated => plain(0, 0, 0),
-        InvalidateOutcome::NotInvalidated(n) => plain(n, 0, 0),
+// A block.
+impl From<Result<usize, Refusal>> for Told {
+    ghost from_gives = { λ outcome told. told_words told ≡ result_of (listed_of outcome) };
+
+    fn from(outcome: Result<usize, Refusal>) -> Told {
+        match outcome {
+            Ok(n) => plain(100, n as u64, 0),
+            Err(refusal) => declined(refusal),
+        }
     }
 }
 
-pub fn block_told(outcome: BlockOutcome) -> Told
-    ensures { told_words result ≡ result_of (block_of outcome) }
-{
-    match outcome {
-        BlockOutcome::Removed(n) => plain(100, n as u64, 0),
-        BlockOutcome::NotApplied(n) => plain(n, 0, 0),
+impl From<Result<NextOutcome, Refusal>> for Told {
+    ghost from_gives = { λ outcome told. told_words told ≡ result_of (next_of outcome) };
+
+    fn from(outcome: Result<NextOutcome, Refusal>) -> Told {
+        match outcome {
+            Ok(next) => match next {
+                NextOutcome::Candidate(id) => of_id(102, id),
+                NextOutcome::Ended(sum) => plain(103, 0, sum),
+            },
+            Err(refusal) => declined(refusal),
+        }
     }
 }
 
-pub fn open_told(outcome: OpenOutcome) -> Told
-    ensures { told_words result ≡ result_of (opened_of outcome) }
-{
-    match outcome {
-        OpenOutcome::Opened => plain(0, 0, 0),
-        OpenOutcome::NotOpened(n) => plain(n, 0, 0),
-    }
-}
+impl From<Result<AnswerOutcome, Refusal>> for Told {
+    ghost from_gives = { λ outcome told. told_words told ≡ result_of (answered_of outcome) };
 
-pub fn next_told(outcome: NextOutcome) -> Told
-    ensures { told_words result ≡ result_of (next_of outcome) }
-{
-    match outcome {
-        NextOutcome::Candidate(id) => of_id(102, id),
-        NextOutcome::Ended(sum) => plain(103, 0, sum),
-        NextOutcome::NoPass(n) => plain(n, 0, 0),
-    }
-}
-
-pub fn answer_told(outcome: AnswerOutcome) -> Told
-    ensures { told_words result ≡ result_of (answered_of outcome) }
-{
-    match outcome {
-        AnswerOutcome::InputMissing(id) => of_id(104, id),
-        AnswerOutcome::AnswerNeeded => plain(101, 0, 0),
-        AnswerOutcome::FoundInvalid(id) => of_id(105, id),
-        AnswerOutcome::FoundValid(id) => of_id(106, id),
-        AnswerOutcome::NotAnswered(n) => plain(n, 0, 0),
+    fn from(outcome: Result<AnswerOutcome, Refusal>) -> Told {
+        match outcome {
+            Ok(answer) => match answer {
+                AnswerOutcome::InputMissing(id) => of_id(104, id),
+                AnswerOutcome::AnswerNeeded => plain(101, 0, 0),
+                AnswerOutcome::FoundInvalid(id) => of_id(105, id),
+                AnswerOutcome::FoundValid(id) => of_id(106, id),
+            },
+            Err(refusal) => declined(refusal),
+        }
     }
 }
 
@@ -146,47 +178,40 @@ pub fn put(res: &mut [u64], told: Told) -> u64
     if res.len() < RESULT_WORDS {
         return told.code;
     }
-    let id = told.id;
-    res[0] = told.code;
-    res[1] = told.written;
-    put_id(res, 2, id);
-    res[6] = told.sum;
-    res[7] = 0;
-    res[8] = 0;
-    res[9] = 0;
-    res[10] = 0;
-    res[11] = 0;
-    res[12] = 0;
-    res[13] = 0;
-    res[14] = 0;
-    res[15] = 0;
+    put_words(res, 0, &told.words());
     told.code
 }
 
 // A refusal.
-pub fn refuse(res: &mut [u64], n: u64) -> u64
-    ensures { Says res.old res.new (refused n 0) result }
+pub fn refuse(res: &mut [u64], refusal: Refusal) -> u64
+    ensures { Says res.old res.new (refused (refusal_number refusal) 0) result }
 {
-    put(res, plain(n, 0, 0))
+    put(res, declined(refusal))
 }
 
-// ---- queries: refusal n is 2^64−1−n
+// ---- queries
 
-pub fn test_code(outcome: TestOutcome) -> u64
+// Refusal n is 2^64−1−n.
+pub fn refusal_code(refusal: Refusal) -> u64
+    ensures { result ≡ cap - refusal_number refusal }
+{
+    u64::MAX - u64::from(refusal)
+}
+
+pub fn test_code(outcome: Result<bool, Refusal>) -> u64
     ensures { result ≡ query_of (tested_of outcome) }
 {
     match outcome {
-        TestOutcome::Yes => 1,
-        TestOutcome::No => 0,
-        TestOutcome::NotTested(n) => u64::MAX - n,
+        Ok(said) => u64::from(said),
+        Err(refusal) => refusal_code(refusal),
     }
 }
 
-pub fn list_code(outcome: ListOutcome) -> u64
+pub fn list_code(outcome: Result<usize, Refusal>) -> u64
     ensures { result ≡ query_of (listed_of outcome) }
 {
     match outcome {
-        ListOutcome::Listed(k) => k as u64,
-        ListOutcome::NotListed(n) => u64::MAX - n,
+        Ok(k) => k as u64,
+        Err(refusal) => refusal_code(refusal),
     }
 }

@@ -7,23 +7,23 @@ ghost use Rattle.host.specs.State.{state_of};
 ghost use Rattle.host.specs.Statistics.{stats_of};
 ghost use Rattle.host.specs.Fees.{Figure, figured, Bars, bars_of};
 
-use crate::codes::list_code;
+use crate::codes::{list_code, refusal_code};
 use crate::layout::{STATE_WORDS, load_config, load_state};
 use crate::statistics::STATS_WORDS;
 use fees::{expected_wait_in, pool_histogram_at, recommended_in};
-use pool_types::NumberOutcome;
+use pool_types::Refusal;
 
 // Writes a number to the first word of an answer buffer.
-fn put_number(answer: &mut [u64], outcome: NumberOutcome) -> u64
+fn put_number(answer: &mut [u64], outcome: Result<u64, Refusal>) -> u64
     requires { 1 ≤ length answer.old }
     ensures { Figure answer.old answer.new result (number_of outcome) }
 {
     match outcome {
-        NumberOutcome::Number(n) => {
+        Ok(n) => {
             answer[0] = n;
             1
         }
-        NumberOutcome::NoNumber(n) => u64::MAX - n,
+        Err(refusal) => refusal_code(refusal),
     }
 }
 
@@ -39,13 +39,13 @@ pub extern "C" fn gunthyd_recommended_fee(
     ensures { Figure answer.old answer.new result (figured stats.now state.now (length answer.old) (recommended (stats_of stats.now) (state_of state.now) minutes size)) }
 {
     if state.len() < STATE_WORDS {
-        return u64::MAX - 1;
+        return refusal_code(Refusal::Lists);
     }
     if stats.len() < STATS_WORDS {
-        return u64::MAX - 1;
+        return refusal_code(Refusal::Lists);
     }
     if answer.len() < 1 {
-        return u64::MAX - 2;
+        return refusal_code(Refusal::AnswerTooSmall);
     }
     let config = load_config(state);
     let least = config.min_fee;
@@ -67,13 +67,13 @@ pub extern "C" fn gunthyd_expected_wait_ms_at(
     ensures { Figure answer.old answer.new result (figured stats.now state.now (length answer.old) (expected_wait entries.now (stats_of stats.now) (state_of state.now) time fee size)) }
 {
     if state.len() < STATE_WORDS {
-        return u64::MAX - 1;
+        return refusal_code(Refusal::Lists);
     }
     if stats.len() < STATS_WORDS {
-        return u64::MAX - 1;
+        return refusal_code(Refusal::Lists);
     }
     if answer.len() < 1 {
-        return u64::MAX - 2;
+        return refusal_code(Refusal::AnswerTooSmall);
     }
     let mempool = load_state(state);
     let pooled = mempool.counts.pooled;
@@ -94,7 +94,7 @@ pub extern "C" fn gunthyd_pool_histogram_at(
     ensures { Bars answer.old answer.new result (bars_of entries.now state.now (length answer.old) time bins longest) }
 {
     if state.len() < STATE_WORDS {
-        return u64::MAX - 1;
+        return refusal_code(Refusal::Lists);
     }
     let mempool = load_state(state);
     list_code(pool_histogram_at(entries, mempool, answer, time, bins, longest))

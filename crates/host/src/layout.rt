@@ -3,7 +3,7 @@
 ghost use Rattle.std.specs.Prelude.{◌≡◌, not, ◌+◌, ◌≤◌, length, set};
 ghost use Rattle.std.proofs.lemmas.List.Edits.{sets};
 ghost use Rattle.words.specs.Lists.{pick};
-ghost use Rattle.words.specs.Ids.{words_at};
+ghost use Rattle.pool_types.specs.Refusals.{refusal_number};
 ghost use Rattle.entries.specs.Layout.{cost_of};
 ghost use Rattle.cleanup.specs.Post.{none_out};
 ghost use Rattle.host.specs.Host.{strategy_of};
@@ -12,13 +12,12 @@ ghost use Rattle.host.specs.Stored.{flag_word, half_word, pass_words, Stored};
 ghost use Rattle.host.specs.Starts.{first_word, Begun};
 ghost use Rattle.host.specs.Changes.{tx_of};
 
-use entries::fields::ValidationCost;
 use pool_types::{
-    Counts, FeeStrategy, Mempool, MempoolConfig, Pass, Source, Submission, Sums, Verdict,
+    Counts, FeeStrategy, Mempool, MempoolConfig, Pass, Refusal, Source, Submission, Sums, Verdict,
 };
 use returns::UnconfirmedTx;
 use store::unfit;
-use words::ids::{Id, put_id};
+use words::ids::{get_id, put_id};
 
 pub const SETTINGS_WORDS: usize = 9;
 
@@ -45,18 +44,6 @@ fn low_half(word: u64) -> u32
     ensures { result ≡ low_half word }
 {
     (word % 4294967296) as u32
-}
-
-fn id_at(s: &[u64], at: usize) -> Id
-    requires { at + 4 ≤ length s.now }
-    ensures { result ≡ words_at s.now at }
-{
-    Id {
-        a: s[at],
-        b: s[at + 1],
-        c: s[at + 2],
-        d: s[at + 3],
-    }
 }
 
 // ---- the state
@@ -103,7 +90,7 @@ pub fn load_pass(s: &[u64]) -> Pass
     requires { 25 ≤ length s.now }
     ensures { result ≡ pass_of s.now }
 {
-    let candidate = id_at(s, 16);
+    let candidate = get_id(s, 16);
     let preheader = low_half(s[22]);
     Pass {
         open: s[14] != 0,
@@ -134,39 +121,38 @@ pub fn load_state(s: &[u64]) -> Mempool
 }
 
 // What too few words of another list are answered with: an open pass is named first here too, ..
-pub fn too_few(s: &[u64]) -> u64
+pub fn too_few(s: &[u64]) -> Refusal
     requires { 25 ≤ length s.now }
-    ensures { result ≡ pick (pass_of s.now).«open» 20 1 }
+    ensures { refusal_number result ≡ pick (pass_of s.now).«open» 20 1 }
 {
     let pass = load_pass(s);
     unfit(pass.open)
 }
 
 // .. of next that there is none, ..
-pub fn too_few_of_next(s: &[u64]) -> u64
+pub fn too_few_of_next(s: &[u64]) -> Refusal
     requires { 25 ≤ length s.now }
-    ensures { result ≡ pick (not (pass_of s.now).«open») 21 1 }
+    ensures { refusal_number result ≡ pick (not (pass_of s.now).«open») 21 1 }
 {
     let pass = load_pass(s);
     if pass.open {
-        return 1;
+        Refusal::Lists
+    } else {
+        Refusal::NoPass
     }
-    21
 }
 
 // .. and of answer that no candidate is out.
-pub fn too_few_of_answer(s: &[u64]) -> u64
+pub fn too_few_of_answer(s: &[u64]) -> Refusal
     requires { 25 ≤ length s.now }
-    ensures { result ≡ pick (none_out (pass_of s.now)) 21 1 }
+    ensures { refusal_number result ≡ pick (none_out (pass_of s.now)) 21 1 }
 {
     let pass = load_pass(s);
-    if pass.open {
-        if pass.out {
-            return 1;
-        }
-        return 21;
+    if pass.open && pass.out {
+        Refusal::Lists
+    } else {
+        Refusal::NoPass
     }
-    21
 }
 
 // What a submission changes: the counts, ..
@@ -199,7 +185,7 @@ pub fn store_left(s: &mut [u64], mempool: Mempool)
     store_sums(s, sums);
 }
 
-// A flag's word, where `was` stood: it stays where it says the same, ..
+// A flag's word for C, where `was` stood: it stays where it says the same, ..
 fn flag_word(was: u64, b: bool) -> u64
     ensures { result ≡ flag_word was b }
 {
@@ -273,10 +259,8 @@ pub fn begin(s: &mut [u64], settings: &[u64])
     requires in_bounds_2 { 9 ≤ length settings.now }
     ensures { Begun settings.now s.old s.new }
 {
-    let mut i = 0;
-    while i < STATE_WORDS {
+    for i in 0..STATE_WORDS {
         s[i] = first_word(settings, i);
-        i += 1;
     }
 }
 
@@ -309,7 +293,7 @@ pub fn load_submission(s: &[u64]) -> Submission
     requires { 11 ≤ length s.now }
     ensures { result ≡ submission_of s.now }
 {
-    let id = id_at(s, 1);
+    let id = get_id(s, 1);
     let preheader = low_half(s[6]);
     let source = source_of(s[7], s[8]);
     let verdict = verdict_of(s[9], s[10]);
@@ -326,20 +310,20 @@ pub fn load_submission(s: &[u64]) -> Submission
 // ---- a transaction that is given back
 
 // 0 is unmeasured, any other word measured.
-fn measured_of(kind: u64, cost: u64) -> ValidationCost
+fn measured_of(kind: u64, cost: u64) -> Option<u64>
     ensures { result ≡ cost_of kind cost }
 {
     if kind == 0 {
-        return ValidationCost::Unmeasured;
+        return None;
     }
-    ValidationCost::Measured(cost)
+    Some(cost)
 }
 
 pub fn load_tx(s: &[u64]) -> UnconfirmedTx
     requires { 13 ≤ length s.now }
     ensures { result ≡ tx_of s.now }
 {
-    let id = id_at(s, 0);
+    let id = get_id(s, 0);
     let cost = low_half(s[6]);
     let validation_cost = measured_of(s[7], s[8]);
     let source = source_of(s[11], s[12]);

@@ -115,9 +115,9 @@ use crate::codes::{lacks, plain, put, refuse};
 use crate::layout::{SETTINGS_WORDS, STATE_WORDS, begin, load_config, strategy_of};
 use crate::statistics::{STATS_WORDS, store_stats};
 use entries::fields::entries_room;
-use entries::table::{Place, find_entry};
+use entries::table::find_entry;
 use mempool::start;
-use pool_types::StartOutcome;
+use pool_types::Refusal;
 use stats::FeeStats;
 use weight::fee_per_factor;
 use words::ids::Id;
@@ -151,8 +151,8 @@ pub extern "C" fn gunthyd_find_entry(
     }
     let place = find_entry(entries, pooled, Id { a, b, c, d });
     match place {
-        Place::At(i) => i as u64,
-        Place::Nowhere => u64::MAX,
+        Some(i) => i as u64,
+        None => u64::MAX,
     }
 }
 
@@ -188,16 +188,16 @@ pub extern "C" fn gunthyd_start(
         stats.old stats.new state.old state.new res.old res.new result }
 {
     if too_short(settings, stats, state, res) {
-        return refuse(res, 1);
+        return refuse(res, Refusal::Lists);
     }
     let config = load_config(settings);
     let outcome = start(entries, boxes, cache, peers, config);
     match outcome {
-        StartOutcome::Ready(_) => {
+        Ok(_) => {
             begin(state, settings);
             store_stats(stats, FeeStats::new(time));
             put(res, plain(0, 0, 0))
         }
-        StartOutcome::NotStarted(n) => refuse(res, n),
+        Err(refusal) => refuse(res, refusal),
     }
 }

@@ -2,12 +2,13 @@
 ghost use Rattle.host.specs.State.{verdict_of};
 ghost use Rattle.host.specs.Passes.{OpenCall, NextCall, AnswerCall, RebroadcastCall};
 
-use crate::codes::{RESULT_WORDS, answer_told, list_code, next_told, open_told, put, refuse};
+use crate::codes::{RESULT_WORDS, list_code, put, refusal_code, refuse};
 use crate::layout::{
     STATE_WORDS, load_state, store_state, too_few, too_few_of_answer, too_few_of_next, verdict_of,
 };
 use cleanup::rebroadcast::select_for_rebroadcast;
 use cleanup::{answer, next, open};
+use pool_types::Refusal;
 
 // Opens a pass.
 #[unsafe(no_mangle)]
@@ -21,7 +22,7 @@ pub extern "C" fn gunthyd_open(
     ensures { OpenCall state.old state.new res.old res.new time limit preheader result }
 {
     if state.len() < STATE_WORDS {
-        return refuse(res, 1);
+        return refuse(res, Refusal::Lists);
     }
     if res.len() < RESULT_WORDS {
         return refuse(res, too_few(state));
@@ -31,7 +32,7 @@ pub extern "C" fn gunthyd_open(
     let left = opened.mempool;
     let outcome = opened.outcome;
     store_state(state, left);
-    put(res, open_told(outcome))
+    put(res, outcome.into())
 }
 
 // The next candidate of a pass, or that it has ended.
@@ -40,7 +41,7 @@ pub extern "C" fn gunthyd_next(entries: &[u64], state: &mut [u64], res: &mut [u6
     ensures { NextCall entries.now state.old state.new res.old res.new result }
 {
     if state.len() < STATE_WORDS {
-        return refuse(res, 1);
+        return refuse(res, Refusal::Lists);
     }
     if res.len() < RESULT_WORDS {
         return refuse(res, too_few_of_next(state));
@@ -50,7 +51,7 @@ pub extern "C" fn gunthyd_next(entries: &[u64], state: &mut [u64], res: &mut [u6
     let left = offered.mempool;
     let outcome = offered.outcome;
     store_state(state, left);
-    put(res, next_told(outcome))
+    put(res, outcome.into())
 }
 
 // Answers what is known of the candidate.
@@ -68,7 +69,7 @@ pub extern "C" fn gunthyd_answer(
     ensures { AnswerCall entries.old entries.new boxes.old boxes.new cache.old cache.new state.old state.new res.old res.new flags.now (verdict_of verdict cost) result }
 {
     if state.len() < STATE_WORDS {
-        return refuse(res, 1);
+        return refuse(res, Refusal::Lists);
     }
     if res.len() < RESULT_WORDS {
         return refuse(res, too_few_of_answer(state));
@@ -79,7 +80,7 @@ pub extern "C" fn gunthyd_answer(
     let left = answered.mempool;
     let outcome = answered.outcome;
     store_state(state, left);
-    put(res, answer_told(outcome))
+    put(res, outcome.into())
 }
 
 // The transactions to send again: their ids.
@@ -94,7 +95,7 @@ pub extern "C" fn gunthyd_select_for_rebroadcast(
     ensures { RebroadcastCall entries.now boxes.now answer.old answer.new state.now confirmed.now result }
 {
     if state.len() < STATE_WORDS {
-        return u64::MAX - 1;
+        return refusal_code(Refusal::Lists);
     }
     let mempool = load_state(state);
     list_code(select_for_rebroadcast(entries, boxes, answer, mempool, confirmed))

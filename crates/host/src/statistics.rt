@@ -11,15 +11,13 @@ pub const STATS_WORDS: usize = 124;
 const BINS: usize = 60;
 
 // A word for each minute, from `at` on.
-fn load_bins(s: &[u64], at: usize) -> [u64; 60]
+fn load_bins(s: &[u64], at: usize) -> [u64; BINS]
     requires { at + 60 ≤ length s.now }
     ensures { result ≡ take 60 (drop at s.now) }
 {
-    let mut bins: [u64; 60] = [0; 60];
-    let mut i = 0;
-    while i < BINS {
+    let mut bins = [0; BINS];
+    for i in 0..BINS {
         bins[i] = s[at + i];
-        i += 1;
     }
     bins
 }
@@ -41,15 +39,13 @@ pub fn load_stats(s: &[u64]) -> FeeStats
 }
 
 // An array has its length by its type; what stores one field of a struct after the other wants it said.
-fn store_bins(s: &mut [u64], at: usize, bins: [u64; 60])
+fn store_bins(s: &mut [u64], at: usize, bins: [u64; BINS])
     requires { at + 60 ≤ length s.old }
     ensures s_after { s.new ≡ paste s.old at bins 60 }
     ensures bins_len { length bins ≡ 60 }
 {
-    let mut i = 0;
-    while i < BINS {
+    for i in 0..BINS {
         s[at + i] = bins[i];
-        i += 1;
     }
 }
 

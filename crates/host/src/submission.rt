@@ -3,7 +3,7 @@ ghost use Rattle.std.specs.Prelude.{◌≡◌, true, ◌≤◌, length};
 ghost use Rattle.words.specs.Sums.{cap};
 ghost use Rattle.host.specs.Calls.{lent, Submitted, Refusing, Asks, Tells};
 
-use crate::codes::{lacks, process_told, put};
+use crate::codes::{Told, lacks, put};
 use crate::layout::{
     STATE_WORDS, SUBMISSION_WORDS, load_pass, load_state, load_submission, store_left,
 };
@@ -129,7 +129,7 @@ fn tell(state: &mut [u64], res: &mut [u64], call: Asked, done: Processed) -> u64
     ensures { Tells state.old state.new res.old res.new call done result }
 {
     let outcome = done.outcome;
-    let told = process_told(outcome);
+    let told = Told::from(outcome);
     if call.whole {
         let left = done.mempool;
         store_left(state, left);

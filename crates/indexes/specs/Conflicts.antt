@@ -11,9 +11,6 @@ use Rattle.words.specs.declared.ids.Id.{Id}
 use Rattle.boxes.specs.Records.{Pair, lookup, once, dedup, conflicts}
 use Rattle.boxes.specs.Among.{among}
 use Rattle.boxes.specs.Flat.{count_of, ids_to, ids_of, ids, ids-put}
-use Rattle.indexes.specs.declared.owners.Owner.{Owner}
-use Rattle.indexes.specs.declared.owners.Owner.TheVariants.{By, Nobody}
-use Rattle.indexes.specs.Owners.{owner_ids}
 
 -- ids ks were put behind the first n, those that are not there yet: r stand there now, and the rest is as it was
 pub record Added (l m : List ℕ) (n r : ℕ) (ks : List ℕ) : Type 0 where
@@ -61,12 +58,6 @@ added_new l n x g h =
     }
 
 -- ---- one box: its owner, if there is one
-
-pub added-by : (l m : List ℕ) (n r : ℕ) (o : Owner) (x : Id) {ks : List ℕ} → owner_ids o ≡ ks → o ≡ By x → Added l m n r (id_of x ∷ []) → Added l m n r ks
-added-by l m n r o x e q a = rw (← e, q) a
-
-pub added-nobody : (l : List ℕ) (n : ℕ) (o : Owner) {ks : List ℕ} → owner_ids o ≡ ks → o ≡ Nobody → Added l l n n ks
-added-nobody l n o e q = rw (← e, q) (added_none l n)
 
 -- ---- input by input
 

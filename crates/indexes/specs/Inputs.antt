@@ -1,4 +1,5 @@
 -- The inputs of a transaction, from the last down: `inputs_of k (take at (all_rows l n))` are those before slot `at`.
+use Rattle.std.specs.Prelude.{None, Option, Some}
 use Rattle.std.specs.Prelude.{ℕ, zero, suc, ◌+◌, ◌≤◌, ◌<◌, ◌≡◌, refl, Bool, true, false, ◌&&◌, List, [], ◌∷◌, ◌++◌, length, take}
 use Rattle.std.proofs.Common.{sym, ◌∙◌, append-nil, arith, length-append, take_all, take-suc}
 use Rattle.std.proofs.Math.Path.{ap}
@@ -9,8 +10,6 @@ use Rattle.boxes.specs.IndexLaws.{inputs-split}
 use Rattle.boxes.specs.Layout.{BoxesOk, slots_used, box_at, boxes_of, rows_of, rows, all_rows, inputs-rows, slots-low}
 use Rattle.boxes.specs.Index.{BoxesKept}
 use Rattle.boxes.specs.Searching.{InputAt, LastInput}
-use Rattle.boxes.specs.declared.links.Slot.{Slot}
-use Rattle.boxes.specs.declared.links.Slot.TheVariants.{At, Nowhere}
 
 -- ---- what is read of rows, where one that is no input of the transaction changes nothing, is read of those up to its last input
 
@@ -31,15 +30,15 @@ module _ {A : Type 0} (F : List BoxRec → A) (k : ℕ) (skip : (rs : List BoxRe
             ∙ ih q
         go ih (no q) u = let e : w ≡ suc i = omega (arith, q) in rw e
 
-  module _ (l : List ℕ) (n at : ℕ) (r : Slot) (some : InputAt l k at r) (last : BoxesKept l n → LastInput l n k at r) where
-    pub up_to : (i : ℕ) → r ≡ At i → BoxesKept l n → F (take at (all_rows l n)) ≡ F (take i (all_rows l n) ++ (box_at l i ∷ []))
+  module _ (l : List ℕ) (n at : ℕ) (r : Option ℕ) (some : InputAt l k at r) (last : BoxesKept l n → LastInput l n k at r) where
+    pub up_to : (i : ℕ) → r ≡ Some i → BoxesKept l n → F (take at (all_rows l n)) ≡ F (take i (all_rows l n) ++ (box_at l i ∷ []))
     unfolding all_rows
     up_to i e x =
         let low : i < at = (some.some i e).0 in
         let this = (last x).some i e in
         gap l (slots_used l n) (suc i) at (omega arith) (λ j a b c. this.1 j (omega arith) b c) ∙ ap F (more l (slots_used l n) i this.0)
 
-    pub up-to-none : r ≡ Nowhere → BoxesKept l n → F (take at (all_rows l n)) ≡ F []
+    pub up-to-none : r ≡ None → BoxesKept l n → F (take at (all_rows l n)) ≡ F []
     unfolding all_rows
     up-to-none e x = gap l (slots_used l n) 0 at (omega arith) (λ j a b c. (last x).none e j b c)
 
@@ -59,12 +58,12 @@ inputs-snoc k rs r t = inputs-split k rs (r ∷ []) ∙ rw t
 pub inputs-all : (l : List ℕ) (n k at : ℕ) → BoxesOk l n → length l ≤ at → inputs_of k (take at (all_rows l n)) ≡ inputs_of k (boxes_of l n)
 inputs-all l n k at ok h = ap (inputs_of k) (take-used l n at ok h) ∙ inputs-rows k l n
 
-module _ (l : List ℕ) (n k at : ℕ) (r : Slot) (some : InputAt l k at r) (last : BoxesKept l n → LastInput l n k at r) where
-  pub inputs-at : (i : ℕ) → r ≡ At i → BoxesKept l n → inputs_of k (take at (all_rows l n)) ≡ inputs_of k (take i (all_rows l n)) ++ ((box_at l i).box ∷ [])
+module _ (l : List ℕ) (n k at : ℕ) (r : Option ℕ) (some : InputAt l k at r) (last : BoxesKept l n → LastInput l n k at r) where
+  pub inputs-at : (i : ℕ) → r ≡ Some i → BoxesKept l n → inputs_of k (take at (all_rows l n)) ≡ inputs_of k (take i (all_rows l n)) ++ ((box_at l i).box ∷ [])
   inputs-at i e x =
       up_to (inputs_of k) k (inputs-skip k) l n at r some last i e x ∙ inputs-snoc k (take i (all_rows l n)) (box_at l i) (some.some i e).2
 
-  pub inputs-no : r ≡ Nowhere → BoxesKept l n → inputs_of k (take at (all_rows l n)) ≡ []
+  pub inputs-no : r ≡ None → BoxesKept l n → inputs_of k (take at (all_rows l n)) ≡ []
   inputs-no e x = up-to-none (inputs_of k) k (inputs-skip k) l n at r some last e x
 
 -- ---- document 01, `select_for_rebroadcast`: each input is among the confirmed box ids
@@ -95,14 +94,11 @@ module _ (cs l : List ℕ) (n k : ℕ) where
   pub check-first : BoxesOk l n → Checking cs l n k (length l)
   check-first ok = record { low = omega arith; same = λ x. ap (all_among cs) (inputs-all l n k (length l) ok (omega arith)) }
 
-  pub check-end : (at : ℕ) → at ≤ 0 → Checking cs l n k at → BoxesKept l n → true ≡ all_among cs (inputs_of k (boxes_of l n))
-  check-end at h c x = let e : at ≡ 0 = omega arith in ap (λ (i : ℕ). all_among cs (inputs_of k (take i (all_rows l n)))) (sym e) ∙ c.same x
-
-  module _ (at : ℕ) (c : Checking cs l n k at) (r : Slot) (some : InputAt l k at r) (last : BoxesKept l n → LastInput l n k at r) where
-    pub check-none : r ≡ Nowhere → BoxesKept l n → true ≡ all_among cs (inputs_of k (boxes_of l n))
+  module _ (at : ℕ) (c : Checking cs l n k at) (r : Option ℕ) (some : InputAt l k at r) (last : BoxesKept l n → LastInput l n k at r) where
+    pub check-none : r ≡ None → BoxesKept l n → true ≡ all_among cs (inputs_of k (boxes_of l n))
     check-none e x = ap (all_among cs) (sym (inputs-no l n k at r some last e x)) ∙ c.same x
 
-    module _ (i y : ℕ) (e : r ≡ At i) (h : y ≡ (box_at l i).box) where
+    module _ (i y : ℕ) (e : r ≡ Some i) (h : y ≡ (box_at l i).box) where
       here : BoxesKept l n → (among y cs && all_among cs (inputs_of k (take i (all_rows l n)))) ≡ all_among cs (inputs_of k (boxes_of l n))
       here x =
           ap (λ (b : ℕ). among b cs && all_among cs (inputs_of k (take i (all_rows l n)))) h
@@ -128,17 +124,11 @@ module _ (l : List ℕ) (n k : ℕ) where
   pub count-first : BoxesOk l n → Counting l n k (length l) 0
   count-first ok = record { few = omega arith; same = λ x. omega (arith, ap length (inputs-all l n k (length l) ok (omega arith))) }
 
-  pub count-end : (at c : ℕ) → at ≤ 0 → Counting l n k at c → BoxesKept l n → c ≡ length (inputs_of k (boxes_of l n))
-  count-end at c h s x =
-      let e : at ≡ 0 = omega arith in
-      let z : length (inputs_of k (take at (all_rows l n))) ≡ 0 = ap (λ (i : ℕ). length (inputs_of k (take i (all_rows l n)))) e in
-      omega (arith, s.same x)
-
-  module _ (at c : ℕ) (s : Counting l n k at c) (r : Slot) (some : InputAt l k at r) (last : BoxesKept l n → LastInput l n k at r) where
-    pub count_none : r ≡ Nowhere → BoxesKept l n → c ≡ length (inputs_of k (boxes_of l n))
+  module _ (at c : ℕ) (s : Counting l n k at c) (r : Option ℕ) (some : InputAt l k at r) (last : BoxesKept l n → LastInput l n k at r) where
+    pub count_none : r ≡ None → BoxesKept l n → c ≡ length (inputs_of k (boxes_of l n))
     count_none e x = omega (arith, s.same x, ap length (inputs-no l n k at r some last e x))
 
-    pub count-more : (i : ℕ) → r ≡ At i → Counting l n k i (c + 1)
+    pub count-more : (i : ℕ) → r ≡ Some i → Counting l n k i (c + 1)
     count-more i e =
         let low : i < at = (some.some i e).0 in
         record {

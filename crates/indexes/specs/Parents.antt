@@ -1,14 +1,13 @@
 -- The last input of a transaction, among the first records, that has a producer, for the family walk (document 01, "Credits to parents"): its "inputs'
 -- producers in input order" are pushed and the last is popped, so the producers of the inputs in the first n records are a stack whose top is that
 -- of the last input that has one.
-use Rattle.std.specs.Prelude.{ℕ, suc, ◌+◌, ◌<◌, ◌≡◌, refl, Bool, true, false, ◌⊎◌, eqb, length, take}
+use Rattle.std.specs.Prelude.{Option, Some, None, ℕ, suc, ◌+◌, ◌<◌, ◌≡◌, refl, Bool, true, false, ◌⊎◌, eqb, length, take}
 use Rattle.std.proofs.Common.{sym, ap, ◌∙◌, inl, inr, ⊎_elim, add-zero, add-suc, suc-add, arith, length-take, take-take}
 use mathlib.Core.List.{List, [], ◌∷◌, ◌++◌, append_assoc, reverse_aux, reverse_aux-append, cons≢nil}
 use Rattle.words.specs.Lists.{pick, flat}
 use Rattle.words.specs.Ids.{id_of}
 use Rattle.boxes.specs.Records.{BoxRec, Pair, lookup, is_input, inputs_of}
 use Rattle.indexes.specs.declared.inputs.Parent.{Parent}
-use Rattle.indexes.specs.declared.inputs.Parent.TheVariants.{Of, NoParent}
 
 -- a producer, and the index of the record of the input that it produces
 pub record Link : Type 0 where
@@ -46,9 +45,9 @@ last-edges : (last_parent fifty 1 some 5 ≡ record { parent = 50; at = 3 } ∷ 
 last-edges = (refl, refl, refl)
 
 -- the code's answer
-abbrev pub links_of : Parent → List Link
-links_of (Of p i) = record { parent = id_of p; at = i } ∷ []
-links_of NoParent = []
+abbrev pub links_of : Option Parent → List Link
+links_of (Some p) = record { parent = id_of p.id; at = p.slot } ∷ []
+links_of None = []
 
 -- ---- the law that the walk goes by: the producers of the inputs in the first n records as a stack. Either there is none, or the answer is on
 -- top, and below it are those of the first i records, i < n.

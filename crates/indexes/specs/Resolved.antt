@@ -1,9 +1,9 @@
 -- Inputs that are found: confirmed, as the caller says, or in the producer index. Document 01, refusal 28: "an input neither confirmed nor in the
 -- producer index"; and of an answer: "an input found nowhere".
-use Rattle.std.specs.Prelude.{ℕ, suc, ◌+◌, ◌*◌, ◌/◌, ◌≤◌, ◌<◌, ◌≡◌, refl, Bool, true, false, ◌&&◌, ◌||◌, List, [], ◌∷◌, ◌++◌, length, get_or, take, drop}
-use Rattle.std.proofs.Common.{sym, ◌∙◌, arith, length-append, length-take, take-suc, eq-eqb, ne_eqb}
+use Rattle.std.specs.Prelude.{None, Option, Some}
+use Rattle.std.specs.Prelude.{ℕ, ◌+◌, ◌*◌, ◌/◌, ◌≤◌, ◌<◌, ◌≡◌, refl, Bool, true, false, ◌&&◌, ◌||◌, List, [], ◌∷◌, ◌++◌, length, get_or, take, drop}
+use Rattle.std.proofs.Common.{sym, ◌∙◌, arith, length-append, eq-eqb, ne_eqb}
 use Rattle.std.proofs.Math.Path.{ap}
-use Rattle.std.proofs.Math.Seq.{take-length}
 use Rattle.words.specs.Rows.{tab, length-tab, get_or-tab, take-tab}
 use Rattle.words.specs.Tables.{Table, drop_of, drop_past}
 use Rattle.words.specs.Ids.{id_at}
@@ -11,8 +11,6 @@ use Rattle.boxes.specs.Records.{Pair, lookup, inputs_of}
 use Rattle.boxes.specs.Layout.{BoxesOk, is_set, box_at, boxes_of, all_rows}
 use Rattle.boxes.specs.Index.{BoxesKept}
 use Rattle.boxes.specs.Searching.{InputAt, LastInput}
-use Rattle.boxes.specs.declared.links.Slot.{Slot}
-use Rattle.boxes.specs.declared.links.Slot.TheVariants.{At, Nowhere}
 use Rattle.indexes.specs.Owners.{is_found}
 use Rattle.indexes.specs.Inputs.{inputs-all, inputs-at, inputs-no}
 
@@ -74,9 +72,6 @@ pub record Submitting (K : Type 0) (producers : List Pair) (l : List ℕ) (j : �
   pub same : K → all_resolved producers (drop j (submitted l)) ≡ all_resolved producers (submitted l)
 
 module _ (K : Type 0) (producers : List Pair) (l : List ℕ) where
-  pub submit-first : Submitting K producers l 0
-  submit-first = record { same = λ k. refl }
-
   pub submit-end : (j : ℕ) → length l / 5 ≤ j → Submitting K producers l j → K → true ≡ all_resolved producers (submitted l)
   submit-end j h s k = ap (all_resolved producers) (sym (drop_past inputs l (length l / 5) j h)) ∙ s.same k
 
@@ -94,7 +89,7 @@ module _ (K : Type 0) (producers : List Pair) (l : List ℕ) where
     pub submit-on : t ≡ true → Submitting K producers l (j + 1)
     submit-on q = record { same = λ k. ap (λ (u : Bool). u && all_resolved producers (drop (j + 1) (submitted l))) (sym q) ∙ here k }
 
--- ---- the inputs of a pooled transaction with the flags ws, from the last down: those before slot `at` have the first j flags
+-- ---- the inputs of a pooled transaction with the flags ws, from the last down: those before slot `at` have the flags us
 
 flagged-snoc : (bs us : List ℕ) (b w : ℕ) → length us ≡ length bs → flagged (bs ++ (b ∷ [])) (us ++ (w ∷ [])) ≡ flagged bs us ++ (input_of b w ∷ [])
 flagged-snoc [] [] b w e = refl
@@ -115,56 +110,46 @@ resolved-snoc producers (j ∷ is) i = rw (resolved-snoc producers is i) (go (re
 abbrev Flags : List ℕ → ℕ → ℕ → List ℕ → Type 0
 Flags l n k ws = length ws ≡ length (inputs_of k (boxes_of l n))
 
-pub record Reading (producers : List Pair) (ws l : List ℕ) (n k at j : ℕ) : Type 0 where
-  pub low : j ≤ length ws
-  pub left : BoxesKept l n → Flags l n k ws → j ≡ length (inputs_of k (take at (all_rows l n)))
-  pub same : BoxesKept l n → Flags l n k ws → all_resolved producers (flagged (inputs_of k (take at (all_rows l n))) (take j ws)) ≡ all_resolved producers (flagged (inputs_of k (boxes_of l n)) ws)
+pub record Reading (producers : List Pair) (ws l : List ℕ) (n k at : ℕ) (us : List ℕ) : Type 0 where
+  pub left : BoxesKept l n → Flags l n k ws → length us ≡ length (inputs_of k (take at (all_rows l n)))
+  pub same : BoxesKept l n → Flags l n k ws → all_resolved producers (flagged (inputs_of k (take at (all_rows l n))) us) ≡ all_resolved producers (flagged (inputs_of k (boxes_of l n)) ws)
 
 module _ (producers : List Pair) (ws l : List ℕ) (n k : ℕ) where
-  pub read_first : BoxesOk l n → Reading producers ws l n k (length l) (length ws)
+  pub read_first : BoxesOk l n → Reading producers ws l n k (length l) ws
   read_first ok =
       let e = inputs-all l n k (length l) ok (omega arith) in
-      record {
-        low = omega arith;
-        left = λ x f. f ∙ ap length (sym e);
-        same = λ x f. (λ t. all_resolved producers (flagged (e t) (take-length ws t)));
-      }
+      record { left = λ x f. f ∙ ap length (sym e); same = λ x f. ap (λ (bs : List ℕ). all_resolved producers (flagged bs ws)) e }
 
-  pub read-end : (at j : ℕ) → at ≤ 0 → Reading producers ws l n k at j → BoxesKept l n → Flags l n k ws → true ≡ all_resolved producers (flagged (inputs_of k (boxes_of l n)) ws)
-  read-end at j h r x f =
-      let e : at ≡ 0 = omega arith in
-      ap (λ (i : ℕ). all_resolved producers (flagged (inputs_of k (take i (all_rows l n))) (take j ws))) (sym e) ∙ r.same x f
+  module _ (at : ℕ) (us : List ℕ) (s : Reading producers ws l n k at us) (r : Option ℕ) (some : InputAt l k at r) (last : BoxesKept l n → LastInput l n k at r) where
+    pub read_none : r ≡ None → BoxesKept l n → Flags l n k ws → true ≡ all_resolved producers (flagged (inputs_of k (boxes_of l n)) ws)
+    read_none e x f = ap (λ (bs : List ℕ). all_resolved producers (flagged bs us)) (sym (inputs-no l n k at r some last e x)) ∙ s.same x f
 
-  module _ (at j : ℕ) (s : Reading producers ws l n k at j) (r : Slot) (some : InputAt l k at r) (last : BoxesKept l n → LastInput l n k at r) where
-    pub read_none : r ≡ Nowhere → BoxesKept l n → Flags l n k ws → true ≡ all_resolved producers (flagged (inputs_of k (boxes_of l n)) ws)
-    read_none e x f = ap (λ (bs : List ℕ). all_resolved producers (flagged bs (take j ws))) (sym (inputs-no l n k at r some last e x)) ∙ s.same x f
-
-    module _ (i : ℕ) (e : r ≡ At i) where
+    module _ (i : ℕ) (e : r ≡ Some i) where
       -- there is a flag for this one
-      count : BoxesKept l n → Flags l n k ws → j ≡ length (inputs_of k (take i (all_rows l n))) + 1
+      count : BoxesKept l n → Flags l n k ws → length us ≡ length (inputs_of k (take i (all_rows l n))) + 1
       count x f = s.left x f ∙ ap length (inputs-at l n k at r some last i e x) ∙ length-append (inputs_of k (take i (all_rows l n))) ((box_at l i).box ∷ [])
 
-      pub read-flag : j ≡ 0 → (t : Bool) → BoxesKept l n → Flags l n k ws → t ≡ all_resolved producers (flagged (inputs_of k (boxes_of l n)) ws)
+      pub read-flag : length us ≡ 0 → (t : Bool) → BoxesKept l n → Flags l n k ws → t ≡ all_resolved producers (flagged (inputs_of k (boxes_of l n)) ws)
       read-flag z t x f = absurd (omega (arith, count x f))
 
-      module _ (h y : ℕ) (z : j ≡ suc h) (b : y ≡ (box_at l i).box) (t : Bool) (d : BoxesKept l n → t ≡ resolved_by producers (input_of y (get_or ws h 0))) where
-        step : BoxesKept l n → Flags l n k ws → (t && all_resolved producers (flagged (inputs_of k (take i (all_rows l n))) (take h ws))) ≡ all_resolved producers (flagged (inputs_of k (boxes_of l n)) ws)
+      module _ (vs : List ℕ) (w y : ℕ) (z : us ≡ vs ++ (w ∷ [])) (b : y ≡ (box_at l i).box) (t : Bool) (d : BoxesKept l n → t ≡ resolved_by producers (input_of y w)) where
+        fewer : BoxesKept l n → Flags l n k ws → length vs ≡ length (inputs_of k (take i (all_rows l n)))
+        fewer x f = omega (arith, count x f, ap length z ∙ length-append vs (w ∷ []))
+
+        step : BoxesKept l n → Flags l n k ws → (t && all_resolved producers (flagged (inputs_of k (take i (all_rows l n))) vs)) ≡ all_resolved producers (flagged (inputs_of k (boxes_of l n)) ws)
         step x f =
-            let q : h < length ws = omega (arith, s.low) in
-            let c : length (take h ws) ≡ length (inputs_of k (take i (all_rows l n))) = omega (arith, count x f, length-take h ws) in
-            ap (λ (u : Bool). u && all_resolved producers (flagged (inputs_of k (take i (all_rows l n))) (take h ws))) (d x ∙ ap (λ (a : ℕ). resolved_by producers (input_of a (get_or ws h 0))) b)
-            ∙ sym (resolved-snoc producers (flagged (inputs_of k (take i (all_rows l n))) (take h ws)) (input_of (box_at l i).box (get_or ws h 0)))
-            ∙ ap (all_resolved producers) (sym (flagged-snoc (inputs_of k (take i (all_rows l n))) (take h ws) (box_at l i).box (get_or ws h 0) c))
-            ∙ (λ u. all_resolved producers (flagged (sym (inputs-at l n k at r some last i e x) u) ((sym (take-suc ws h 0 q) ∙ ap (λ (a : ℕ). take a ws) (sym z)) u)))
+            ap (λ (u : Bool). u && all_resolved producers (flagged (inputs_of k (take i (all_rows l n))) vs)) (d x ∙ ap (λ (a : ℕ). resolved_by producers (input_of a w)) b)
+            ∙ sym (resolved-snoc producers (flagged (inputs_of k (take i (all_rows l n))) vs) (input_of (box_at l i).box w))
+            ∙ ap (all_resolved producers) (sym (flagged-snoc (inputs_of k (take i (all_rows l n))) vs (box_at l i).box w (fewer x f)))
+            ∙ (λ u. all_resolved producers (flagged (sym (inputs-at l n k at r some last i e x) u) (sym z u)))
             ∙ s.same x f
 
         pub read-fails : t ≡ false → BoxesKept l n → Flags l n k ws → false ≡ all_resolved producers (flagged (inputs_of k (boxes_of l n)) ws)
-        read-fails q x f = ap (λ (u : Bool). u && all_resolved producers (flagged (inputs_of k (take i (all_rows l n))) (take h ws))) (sym q) ∙ step x f
+        read-fails q x f = ap (λ (u : Bool). u && all_resolved producers (flagged (inputs_of k (take i (all_rows l n))) vs)) (sym q) ∙ step x f
 
-        pub read-on : t ≡ true → Reading producers ws l n k i h
+        pub read-on : t ≡ true → Reading producers ws l n k i vs
         read-on q =
             record {
-              low = omega (arith, s.low);
-              left = λ x f. omega (arith, count x f);
-              same = λ x f. ap (λ (u : Bool). u && all_resolved producers (flagged (inputs_of k (take i (all_rows l n))) (take h ws))) (sym q) ∙ step x f;
+              left = fewer;
+              same = λ x f. ap (λ (u : Bool). u && all_resolved producers (flagged (inputs_of k (take i (all_rows l n))) vs)) (sym q) ∙ step x f;
             }

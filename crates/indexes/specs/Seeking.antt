@@ -1,17 +1,13 @@
 -- The search of the last parent as the code does it: input by input, from the last of the first slots down.
-use Rattle.std.specs.Prelude.{ℕ, suc, ◌+◌, ◌≤◌, ◌<◌, ◌≡◌, refl, true, false, List, [], ◌∷◌, ◌++◌, length, take}
+use Rattle.std.specs.Prelude.{None, Option, Some}
+use Rattle.std.specs.Prelude.{ℕ, suc, ◌+◌, ◌<◌, ◌≡◌, true, false, List, [], ◌∷◌, ◌++◌, length, take}
 use Rattle.std.proofs.Common.{sym, ap, ◌∙◌, add-zero, add-suc, suc-add, zero-add, arith, length-take}
 use Rattle.words.specs.declared.ids.Id.{Id}
 use Rattle.boxes.specs.Records.{BoxRec, Pair, index, lookup, is_input}
 use Rattle.boxes.specs.Layout.{slots_used, box_at, boxes_of, rows_of, rows, all_rows, index-rows}
 use Rattle.boxes.specs.Index.{BoxesKept}
 use Rattle.boxes.specs.Searching.{InputAt, LastInput}
-use Rattle.boxes.specs.declared.links.Slot.{Slot}
-use Rattle.boxes.specs.declared.links.Slot.TheVariants.{At, Nowhere}
 use Rattle.indexes.specs.Owners.{owner_ids}
-use Rattle.indexes.specs.declared.owners.Owner.{Owner}
-use Rattle.indexes.specs.declared.owners.Owner.TheVariants.{By, Nobody}
-use Rattle.indexes.specs.declared.inputs.Parent.TheVariants.{Of}
 use Rattle.indexes.specs.Inputs.{up_to, up-to-none}
 use Rattle.indexes.specs.Parents.{Link, or_else, last_from, of_input, last_parent, links_of}
 
@@ -46,17 +42,11 @@ unfolding all_rows
 before l n i h = omega (arith, length-take i (rows_of l (slots_used l n)), rows.len l (slots_used l n))
 
 module _ (l : List ℕ) (n k bound : ℕ) where
-  pub seek-first : Seeking l n k bound bound
-  seek-first = record { same = λ x. refl }
-
-  pub seek-end : (at : ℕ) → at ≤ 0 → Seeking l n k bound at → BoxesKept l n → [] ≡ last_parent (producer_in l n) k (all_rows l n) bound
-  seek-end at h s x = let z : at ≡ 0 = omega arith in ap (last_parent (producer_in l n) k (all_rows l n)) (sym z) ∙ s.same x
-
-  module _ (at : ℕ) (s : Seeking l n k bound at) (r : Slot) (some : InputAt l k at r) (last : BoxesKept l n → LastInput l n k at r) where
-    pub seek-none : r ≡ Nowhere → BoxesKept l n → [] ≡ last_parent (producer_in l n) k (all_rows l n) bound
+  module _ (at : ℕ) (s : Seeking l n k bound at) (r : Option ℕ) (some : InputAt l k at r) (last : BoxesKept l n → LastInput l n k at r) where
+    pub seek-none : r ≡ None → BoxesKept l n → [] ≡ last_parent (producer_in l n) k (all_rows l n) bound
     seek-none e x = sym (up-to-none (last_in (producer_in l n) k) k (last-skip (producer_in l n) k) l n at r some last e x) ∙ s.same x
 
-    module _ (i y : ℕ) (e : r ≡ At i) (h : y ≡ (box_at l i).box) (o : Owner) (f : BoxesKept l n → owner_ids o ≡ lookup (index true (boxes_of l n)) y) where
+    module _ (i y : ℕ) (e : r ≡ Some i) (h : y ≡ (box_at l i).box) (o : Option Id) (f : BoxesKept l n → owner_ids o ≡ lookup (index true (boxes_of l n)) y) where
       -- the producer of the last input decides, else those before it
       here : BoxesKept l n → or_else (owner_ids o) i (last_parent (producer_in l n) k (all_rows l n) i) ≡ last_parent (producer_in l n) k (all_rows l n) bound
       here x =
@@ -65,8 +55,8 @@ module _ (l : List ℕ) (n k bound : ℕ) where
           ∙ sym (up_to (last_in (producer_in l n) k) k (last-skip (producer_in l n) k) l n at r some last i e x)
           ∙ s.same x
 
-      pub seek_hit : (p : Id) → o ≡ By p → BoxesKept l n → links_of (Of p i) ≡ last_parent (producer_in l n) k (all_rows l n) bound
+      pub seek_hit : (p : Id) → o ≡ Some p → BoxesKept l n → links_of (Some (record { id = p; slot = i })) ≡ last_parent (producer_in l n) k (all_rows l n) bound
       seek_hit p q x = ap (λ (ks : List ℕ). or_else ks i (last_parent (producer_in l n) k (all_rows l n) i)) (sym (ap owner_ids q)) ∙ here x
 
-      pub seek-miss : o ≡ Nobody → Seeking l n k bound i
+      pub seek-miss : o ≡ None → Seeking l n k bound i
       seek-miss q = record { same = λ x. ap (λ (ks : List ℕ). or_else ks i (last_parent (producer_in l n) k (all_rows l n) i)) (sym (ap owner_ids q)) ∙ here x }

@@ -75,9 +75,6 @@ pub record Spending (W : ℕ) (inputs l : List ℕ) (n j : ℕ) : Type 0 where
   pub same : BoxesKept l n → any_spent (drop j (ids_of W inputs)) (boxes_of l n) ≡ any_spent (ids_of W inputs) (boxes_of l n)
 
 module _ (W : ℕ) (inputs l : List ℕ) (n : ℕ) where
-  pub spend-first : Spending W inputs l n 0
-  spend-first = record { same = λ k. refl }
-
   module _ (j x : ℕ) (t : Bool) (h : j < count_of W inputs) (e : x ≡ id_at inputs (j * W)) (s : Spending W inputs l n j)
       (f : BoxesKept l n → t ≡ is_found (lookup (index false (boxes_of l n)) x)) where
     here : BoxesKept l n → (t || any_spent (drop (j + 1) (ids_of W inputs)) (boxes_of l n)) ≡ any_spent (ids_of W inputs) (boxes_of l n)

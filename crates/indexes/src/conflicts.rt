@@ -9,7 +9,7 @@ ghost use Rattle.indexes.specs.Conflicts.{Added, Listed};
 ghost use Rattle.indexes.specs.Owners.{is_found};
 ghost use Rattle.indexes.specs.Spent.{any_spent};
 
-use crate::owners::{Owner, spender};
+use crate::owners::spender;
 use boxes::lists::{among, count_of, id_at};
 use words::ids::{Id, put_id};
 
@@ -18,10 +18,7 @@ fn is_spent(s: &[u64], n: usize, key: Id) -> bool
     requires { BoxesOk s.now n }
     ensures { BoxesKept s.now n → result ≡ is_found (lookup (index false (boxes_of s.now n)) (id_of key)) }
 {
-    match spender(s, n, key) {
-        Owner::By(_) => true,
-        Owner::Nobody => false,
-    }
+    spender(s, n, key).is_some()
 }
 
 // Whether one of these boxes has a spender.
@@ -30,13 +27,10 @@ pub fn any_spent(s: &[u64], n: usize, inputs: &[u64], width: usize) -> bool
     requires le_width { 4 ≤ width }
     ensures { BoxesKept s.now n → result ≡ any_spent (ids_of width inputs.now) (boxes_of s.now n) }
 {
-    let total = count_of(inputs, width);
-    let mut j = 0;
-    while j < total {
+    for j in 0..count_of(inputs, width) {
         if is_spent(s, n, id_at(inputs, width, j)) {
             return true;
         }
-        j += 1;
     }
     false
 }
@@ -47,11 +41,10 @@ fn put_once(list: &mut [u64], n: usize, id: Id) -> usize
     ensures { Added list.old list.new n result (id_of id ∷ []) }
 {
     if among(list, 4, 0, n, id) {
-        n
-    } else {
-        put_id(list, n * 4, id);
-        n + 1
+        return n;
     }
+    put_id(list, n * 4, id);
+    n + 1
 }
 
 // Puts the spender of a box behind the first `count`, if it has one.
@@ -62,8 +55,8 @@ fn add_conflict(s: &[u64], n: usize, key: Id, list: &mut [u64], count: usize) ->
     ensures added { BoxesKept s.now n → Added list.old list.new count result (lookup (index false (boxes_of s.now n)) (id_of key)) }
 {
     match spender(s, n, key) {
-        Owner::By(id) => put_once(list, count, id),
-        Owner::Nobody => count,
+        Some(id) => put_once(list, count, id),
+        None => count,
     }
 }
 
@@ -75,12 +68,9 @@ pub fn conflicts(s: &[u64], n: usize, inputs: &[u64], width: usize, list: &mut [
     ensures upper_bound { result ≤ count_of width inputs.now }
     ensures listed { BoxesKept s.now n → Listed list.old list.new (count_of width inputs.now) result (conflicts (index false (boxes_of s.now n)) (ids_of width inputs.now)) }
 {
-    let total = count_of(inputs, width);
     let mut count = 0;
-    let mut j = 0;
-    while j < total {
+    for j in 0..count_of(inputs, width) {
         count = add_conflict(s, n, id_at(inputs, width, j), list, count);
-        j += 1;
     }
     count
 }

@@ -8,8 +8,8 @@ ghost use Rattle.boxes.specs.Index.{BoxesKept};
 ghost use Rattle.indexes.specs.Inputs.{all_among};
 ghost use Rattle.indexes.specs.Parents.{links_of, last_parent};
 
-use crate::owners::{Owner, producer};
-use boxes::links::{Slot, last_input};
+use crate::owners::producer;
+use boxes::links::last_input;
 use boxes::lists::has;
 use boxes::rows::box_key;
 use words::ids::Id;
@@ -20,18 +20,11 @@ pub fn all_listed(s: &[u64], n: usize, id: Id, list: &[u64]) -> bool
     ensures { BoxesKept s.now n → result ≡ all_among (ids_of 4 list.now) (inputs_of (id_of id) (boxes_of s.now n)) }
 {
     let mut at = s.len();
-    while 0 < at {
-        match last_input(s, n, id, at) {
-            Slot::At(i) => {
-                if !has(list, 4, box_key(s, i)) {
-                    return false;
-                }
-                at = i;
-            }
-            Slot::Nowhere => {
-                return true;
-            }
+    while let Some(i) = last_input(s, n, id, at) {
+        if !has(list, 4, box_key(s, i)) {
+            return false;
         }
+        at = i;
     }
     true
 }
@@ -43,47 +36,31 @@ pub fn count_inputs(s: &[u64], n: usize, id: Id) -> usize
 {
     let mut count = 0;
     let mut at = s.len();
-    while 0 < at {
-        match last_input(s, n, id, at) {
-            Slot::At(i) => {
-                count += 1;
-                at = i;
-            }
-            Slot::Nowhere => {
-                return count;
-            }
-        }
+    while let Some(i) = last_input(s, n, id, at) {
+        count += 1;
+        at = i;
     }
     count
 }
 
 // The producer of an input, and the slot of the input's record.
 #[derive(Clone, Copy)]
-pub enum Parent {
-    Of(Id, usize),
-    NoParent,
+pub struct Parent {
+    pub id: Id,
+    pub slot: usize,
 }
 
 // The last input of a transaction in the slots before `bound` that has a producer: who it is, and the slot of the input's record.
-pub fn last_parent(s: &[u64], n: usize, id: Id, bound: usize) -> Parent
+pub fn last_parent(s: &[u64], n: usize, id: Id, bound: usize) -> Option<Parent>
     requires { BoxesOk s.now n }
     ensures { BoxesKept s.now n → links_of result ≡ last_parent (lookup (index true (all_rows s.now n))) (id_of id) (all_rows s.now n) bound }
 {
     let mut at = bound;
-    while 0 < at {
-        match last_input(s, n, id, at) {
-            Slot::At(i) => match producer(s, n, box_key(s, i)) {
-                Owner::By(p) => {
-                    return Parent::Of(p, i);
-                }
-                Owner::Nobody => {
-                    at = i;
-                }
-            },
-            Slot::Nowhere => {
-                return Parent::NoParent;
-            }
+    while let Some(i) = last_input(s, n, id, at) {
+        if let Some(id) = producer(s, n, box_key(s, i)) {
+            return Some(Parent { id, slot: i });
         }
+        at = i;
     }
-    Parent::NoParent
+    None
 }

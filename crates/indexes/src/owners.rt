@@ -6,30 +6,20 @@ ghost use Rattle.boxes.specs.Layout.{BoxesOk, boxes_of};
 ghost use Rattle.boxes.specs.Index.{BoxesKept};
 ghost use Rattle.indexes.specs.Owners.{owner_ids};
 
-use boxes::links::{Slot, find_live};
+use boxes::links::find_live;
 use boxes::rows::box_owner;
 use words::ids::Id;
 
-// Who spends or produces a box.
-#[derive(Clone, Copy)]
-pub enum Owner {
-    By(Id),
-    Nobody,
-}
-
 // The owner that the index of a kind has for a box.
-pub fn owner_of(s: &[u64], n: usize, out: bool, key: Id) -> Owner
+pub fn owner_of(s: &[u64], n: usize, out: bool, key: Id) -> Option<Id>
     requires { BoxesOk s.now n }
     ensures { BoxesKept s.now n → owner_ids result ≡ lookup (index out (boxes_of s.now n)) (id_of key) }
 {
-    match find_live(s, n, out, key) {
-        Slot::At(i) => Owner::By(box_owner(s, i)),
-        Slot::Nowhere => Owner::Nobody,
-    }
+    find_live(s, n, out, key).map(|i| box_owner(s, i))
 }
 
 // The transaction that spends a box.
-pub fn spender(s: &[u64], n: usize, key: Id) -> Owner
+pub fn spender(s: &[u64], n: usize, key: Id) -> Option<Id>
     requires { BoxesOk s.now n }
     ensures { BoxesKept s.now n → owner_ids result ≡ lookup (index false (boxes_of s.now n)) (id_of key) }
 {
@@ -37,7 +27,7 @@ pub fn spender(s: &[u64], n: usize, key: Id) -> Owner
 }
 
 // The transaction that produces a box.
-pub fn producer(s: &[u64], n: usize, key: Id) -> Owner
+pub fn producer(s: &[u64], n: usize, key: Id) -> Option<Id>
     requires { BoxesOk s.now n }
     ensures { BoxesKept s.now n → owner_ids result ≡ lookup (index true (boxes_of s.now n)) (id_of key) }
 {

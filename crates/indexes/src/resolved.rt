@@ -6,8 +6,8 @@ ghost use Rattle.boxes.specs.Layout.{BoxesOk, boxes_of};
 ghost use Rattle.boxes.specs.Index.{BoxesKept};
 ghost use Rattle.indexes.specs.Resolved.{resolved_by, all_resolved, input_of, submitted, flagged};
 
-use crate::owners::{Owner, producer};
-use boxes::links::{Slot, last_input};
+use crate::owners::producer;
+use boxes::links::last_input;
 use boxes::lists::id_at;
 use boxes::rows::box_key;
 use words::ids::Id;
@@ -17,13 +17,7 @@ fn resolved(s: &[u64], n: usize, key: Id, flag: u64) -> bool
     requires { BoxesOk s.now n }
     ensures { BoxesKept s.now n → result ≡ resolved_by (index true (boxes_of s.now n)) (input_of (id_of key) flag) }
 {
-    if flag != 0 {
-        return true;
-    }
-    match producer(s, n, key) {
-        Owner::By(_) => true,
-        Owner::Nobody => false,
-    }
+    flag != 0 || producer(s, n, key).is_some()
 }
 
 // Whether each input of a submission is found: records of five words, the box's id and the flag 'confirmed'.
@@ -31,13 +25,10 @@ pub fn inputs_resolved(s: &[u64], n: usize, inputs: &[u64]) -> bool
     requires { BoxesOk s.now n }
     ensures { BoxesKept s.now n → result ≡ all_resolved (index true (boxes_of s.now n)) (submitted inputs.now) }
 {
-    let total = inputs.len() / 5;
-    let mut j = 0;
-    while j < total {
+    for j in 0..inputs.len() / 5 {
         if !resolved(s, n, id_at(inputs, 5, j), inputs[j * 5 + 4]) {
             return false;
         }
-        j += 1;
     }
     true
 }
@@ -49,24 +40,17 @@ pub fn answer_resolved(s: &[u64], n: usize, id: Id, flags: &[u64]) -> bool
         → result ≡ all_resolved (index true (boxes_of s.now n)) (flagged (inputs_of (id_of id) (boxes_of s.now n)) flags.now) }
 {
     let mut at = s.len();
-    let mut j = flags.len();
-    while 0 < at {
-        match last_input(s, n, id, at) {
-            Slot::At(i) => {
-                // there is a flag for each input, but in words that no start left
-                if j == 0 {
-                    return false;
-                }
-                j -= 1;
-                if !resolved(s, n, box_key(s, i), flags[j]) {
-                    return false;
-                }
-                at = i;
-            }
-            Slot::Nowhere => {
-                return true;
-            }
+    let mut left = flags;
+    while let Some(i) = last_input(s, n, id, at) {
+        // there is a flag for each input, but in words that no start left
+        let Some((flag, before)) = left.split_last() else {
+            return false;
+        };
+        if !resolved(s, n, box_key(s, i), *flag) {
+            return false;
         }
+        left = before;
+        at = i;
     }
     true
 }

@@ -1,4 +1,5 @@
 -- A submission keeps the agreement, and its refusals 24 to 26 are those of the ledger's charges.
+use Rattle.peers.specs.Peers.{Standing}
 use Prim.Native.Nat.{ℕ, ◌+◌, ◌^◌, ◌≤◌, ◌<◌}
 use Rattle.std.specs.Prelude.{◌≡◌, Bool, not, ◌&&◌, ◌||◌, List, leb, ltb}
 use Rattle.std.proofs.Math.Path.{refl, ap}
@@ -20,7 +21,6 @@ use Rattle.pool_types.specs.Outcomes.{Outcome, refused, declined, reading_of}
 use Rattle.arguments.specs.Arguments.{whole, records, fee_of, height_key, ahead_of}
 use Rattle.expiring_cache.specs.Cache.{Held, held}
 use Rattle.peers.specs.Peers.{at_limit, none_free, standing}
-use Rattle.peers.specs.declared.Standing.{Standing}
 use Rattle.entries.specs.Entries.{pooled}
 use Rattle.entries.specs.Layout.{entries_room}
 use Rattle.boxes.specs.Layout.{boxes_room}

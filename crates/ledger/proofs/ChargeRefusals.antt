@@ -1,5 +1,7 @@
 -- Refusals 24, 25 and 26 as the ledger's charges give them (document 01, "Refusals from the state": "24 block sum at or above its limit (remote); 25 the peer
 -- has a record at or above its limit; 26 it has no record and all 256 are used"), and that the pool's tests, `peer_refusal`, give the same.
+use Rattle.std.specs.Prelude.{None, Some}
+use Rattle.peers.specs.Peers.{account, Standing}
 use Rattle.std.specs.Prelude.{ℕ, ◌+◌, ◌^◌, ◌≤◌, ◌<◌, ◌≡◌, refl, Bool, true, false, not, ◌||◌, ◌&&◌, List, [], ◌∷◌, eqb, leb, length}
 use Rattle.std.proofs.Common.{sym, ◌∙◌, arith}
 use Rattle.std.proofs.Math.Bool.{and-false}
@@ -11,8 +13,6 @@ use Rattle.pool_types.specs.declared.Mempool.{Mempool}
 use Rattle.pool_types.specs.declared.Source.{Source}
 use Rattle.pool_types.specs.declared.Source.TheVariants.{Local, Peer}
 use Rattle.peers.specs.declared.PeerRecord.{PeerRecord}
-use Rattle.peers.specs.declared.Standing.{Standing}
-use Rattle.peers.specs.declared.Standing.TheVariants.{Has, Free}
 use Rattle.peers.specs.Peers.{standing_from, standing, charge_peer, holders, holds, sum_in, has_record, at_limit, none_free}
 use Rattle.checks.specs.Checks.{remote, peer_refusal}
 use Rattle.admit.specs.Admit.{charged_sum}
@@ -69,17 +69,17 @@ has-holder : (i : ℕ) (l : List PeerRecord) (p : ℕ) → holds (standing_from 
 has-holder i [] p = refl
 has-holder i (q ∷ qs) p = rw (among-cons p q.peer (holders qs)) (go (eqb q.peer p) (has-holder (i + 1) qs p))
   where
-    go : (t : Bool) → holds (standing_from (i + 1) qs p) ≡ among p (holders qs) → holds (pick t (Has i q.cost) (standing_from (i + 1) qs p)) ≡ (t || among p (holders qs))
+    go : (t : Bool) → holds (standing_from (i + 1) qs p) ≡ among p (holders qs) → holds (pick t (Some (account i q.cost)) (standing_from (i + 1) qs p)) ≡ (t || among p (holders qs))
     go true h = refl
     go false h = h
 
 limit-read : (limit : ℕ) (at : Standing) → at_limit limit at ≡ (holds at && leb limit (sum_in at))
-limit-read limit (Has i c) = refl
-limit-read limit Free = refl
+limit-read limit (Some here) = refl
+limit-read limit None = refl
 
 free-read : (room used : ℕ) (at : Standing) → none_free room used at ≡ (not (holds at) && leb room used)
-free-read room used (Has i c) = refl
-free-read room used Free = refl
+free-read room used (Some here) = refl
+free-read room used None = refl
 
 module _ {sum : ℕ} {peers : List PeerRecord} {cs : List Charge} (same : SameCharges sum peers cs) where
   pub has-is : (p : ℕ) → has_record peers p ≡ among p (payers cs)

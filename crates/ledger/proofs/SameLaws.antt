@@ -1,5 +1,6 @@
 -- Each change of the pool's tables keeps the agreement with the book's change: a transaction enters, one leaves, entries are stamped. And what agrees with
 -- a book is a valid store.
+use Rattle.std.specs.Prelude.{Option}
 use Rattle.std.specs.Prelude.{ℕ, ◌+◌, ◌≤◌, ◌≡◌, refl, Bool, true, false, List, [], ◌∷◌, ◌++◌, map}
 use Rattle.std.proofs.Common.{sym, ap, subst, ◌∙◌, arith}
 use Rattle.std.proofs.lemmas.Simd.{map-map}
@@ -10,7 +11,6 @@ use Rattle.entries.specs.Entries.{Entry, key_of, pooled, insert_on, stamped}
 use Rattle.entries.specs.Order.{sort_on, Sorted, sort_sorted, count-sort, keep-sort, insert-view}
 use Rattle.entries.specs.InOrder.{EntriesInOrder, not-pooled, stamp-view}
 use Rattle.entries.specs.Moves.{without-rest}
-use Rattle.entries.specs.declared.fields.ValidationCost.{ValidationCost}
 use Rattle.boxes.specs.Records.{Pair, index, drop_owner}
 use Rattle.boxes.specs.IndexLaws.{Use, the, Lone, Unowned, enter_pairs, enter_pair, spenders-enter, producers-enter, index-drop, lone-enter, lone-drop, uses-enter, uses-drop}
 use Rattle.pool.specs.Pool.{Tables, insert_tx, remove_tx, remove_all}
@@ -130,7 +130,7 @@ same-remove-all (k ∷ ks) t b s = same-remove-all ks (remove_tx k t) (leaves k 
 
 -- ---- entries are stamped: the book knows of no stamp
 
-pub same-stamped : (k : ℕ) (v : ValidationCost) (time : ℕ) (t : Tables) (b : Book) → SameBook t b → SameBook (record { entries = stamped k v time t.entries; boxes = t.boxes }) b
+pub same-stamped : (k : ℕ) (v : Option ℕ) (time : ℕ) (t : Tables) (b : Book) → SameBook t b → SameBook (record { entries = stamped k v time t.entries; boxes = t.boxes }) b
 same-stamped k v time t b s =
     record {
       once = s.once;

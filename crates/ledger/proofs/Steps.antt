@@ -1,13 +1,15 @@
 -- Each call's contract gives its step: what the `ensures` of the calls cite, and from it a step of `Run`. What a call is not lent stays as it is. With
 -- Run.antt this is the one place that knows how a store is lent.
+use Rattle.pool_types.specs.Refusals.{refusal_number}
+use Rattle.pool_types.specs.declared.Refusal.{Refusal}
+use Rattle.std.specs.Prelude.{Err}
 use Rattle.std.specs.Prelude.{ℕ, ◌/◌, ◌≤◌, max, ◌≡◌, refl, List, length}
 use Rattle.std.proofs.Common.{ap, arith, length-take}
 use Rattle.pool_types.specs.declared.Mempool.{Mempool}
 use Rattle.pool_types.specs.declared.MempoolConfig.{MempoolConfig}
 use Rattle.pool_types.specs.declared.Submission.{Submission}
 use Rattle.pool_types.specs.declared.Verdict.{Verdict}
-use Rattle.pool_types.specs.declared.StartOutcome.TheVariants.{NotStarted}
-use Rattle.pool_types.specs.Outcomes.{Outcome, refused, processed_of, block_of}
+use Rattle.pool_types.specs.Outcomes.{Outcome, refused, processed_of, listed_of}
 use Rattle.stats.specs.declared.FeeStats.{FeeStats}
 use Rattle.expiring_cache.specs.Layout.{cache_room}
 use Rattle.peers.specs.declared.PeerRecord.{PeerRecord}
@@ -66,7 +68,7 @@ module _ (m : Moment) where
 
   -- `blocks::apply_block_at`
   pub block-step : (s : FeeStats) (time : ℕ) (txs ins : List ℕ) {e b k was are : List ℕ} {r : Applied}
-      → BlockPromise m.entries m.boxes m.cache m.state s time txs ins e b k was are r → Step (Block time txs ins) (block_of r.outcome) m (moment e b k m.peers r.mempool)
+      → BlockPromise m.entries m.boxes m.cache m.state s time txs ins e b k was are r → Step (Block time txs ins) (listed_of r.outcome) m (moment e b k m.peers r.mempool)
   block-step s time txs ins {was = was} h =
       record {
         room = length was / 4;
@@ -98,8 +100,8 @@ module _ (m : Moment) where
   still-there o f = record { kept = f; config = refl; outcome = refl; world = refl; pass = refl }
 
   -- `lent::start`, refused
-  pub start-step : (time : ℕ) (c : MempoolConfig) (n : ℕ) → NotStarted n ≡ started (sizes_at m) c → Step (Start time c) (refused n 0) m m
-  start-step time c n h = record { code = n; outcome = refl; post = h; left = still-there (refused n 0) }
+  pub start-step : (time : ℕ) (c : MempoolConfig) (f : Refusal) → Err f ≡ started (sizes_at m) c → Step (Start time c) (refused (refusal_number f) 0) m m
+  start-step time c f h = record { why = f; outcome = refl; post = h; left = still-there (refused (refusal_number f) 0) }
 
   -- a query, whatever it answered: the store is lent for reading, and the state is not handed back
   pub ask-step : (q : Query) (o : Outcome) → Step (Ask q) o m m

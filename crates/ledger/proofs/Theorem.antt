@@ -1,4 +1,7 @@
 -- Demand 3 (document 01): over every list of calls from what an accepted start left, the pool is what the ledger says.
+use Rattle.pool_types.specs.declared.Refusal.TheVariants.{Settings}
+use Rattle.pool_types.specs.declared.Refusal.{Refusal}
+use Rattle.std.specs.Prelude.{Err, Ok}
 use Rattle.std.specs.Prelude.{ℕ, ◌+◌, ◌≤◌, max, Bool, not, List, [], ◌∷◌, map, leb, ltb, length}
 use Rattle.std.proofs.Math.Path.{◌≡◌, refl, ap}
 use Rattle.std.proofs.Common.{sym, subst, ◌∙◌, arith}
@@ -11,7 +14,6 @@ use Rattle.words.specs.Find.{found}
 use Rattle.pool_types.specs.declared.Mempool.{Mempool}
 use Rattle.pool_types.specs.declared.MempoolConfig.{MempoolConfig}
 use Rattle.pool_types.specs.declared.Submission.{Submission}
-use Rattle.pool_types.specs.declared.StartOutcome.TheVariants.{Ready, NotStarted}
 use Rattle.pool_types.specs.Outcomes.{Outcome, Reading, declined, did, offers, fails, tells, reading_of, written_of}
 use Rattle.entries.specs.Entries.{Entry}
 use Rattle.boxes.specs.Records.{BoxRec, Pair, inputs_of, outputs_of}
@@ -111,17 +113,17 @@ pub record Accepted (z : Sizes) (g : MempoolConfig) (st : Mempool) : Type 0 wher
   pub fine : settled z g ≡ true
   pub state : st ≡ empty g
 
-pub accepted-start : (z : Sizes) (g : MempoolConfig) (st : Mempool) → started z g ≡ Ready st → Accepted z g st
+pub accepted-start : (z : Sizes) (g : MempoolConfig) (st : Mempool) → started z g ≡ Ok st → Accepted z g st
 unfolding started
 accepted-start z g st e = go (sized z) refl (settled z g) refl e
   where
-    no-ready : {A : Type 0} (n : ℕ) → NotStarted n ≡ Ready st → A
-    no-ready n q = let y : ◌≡◌ {A = ℕ} 0 1 = cc in absurd (omega arith)
+    no-ready : {A : Type 0} (f : Refusal) → Err f ≡ Ok st → A
+    no-ready f q = let y : ◌≡◌ {A = ℕ} 0 1 = cc in absurd (omega arith)
 
-    go : (t : Bool) → sized z ≡ t → (u : Bool) → settled z g ≡ u → pick t (pick u (Ready (empty g)) (NotStarted 6)) (NotStarted 6) ≡ Ready st → Accepted z g st
+    go : (t : Bool) → sized z ≡ t → (u : Bool) → settled z g ≡ u → pick t (pick u (Ok (empty g)) (Err Settings)) (Err Settings) ≡ Ok st → Accepted z g st
     go true p true q x = record { size = p; fine = q; state = cc }
-    go true p false q x = no-ready 6 x
-    go false p u q x = no-ready 6 x
+    go true p false q x = no-ready Settings x
+    go false p u q x = no-ready Settings x
 
 bounds_of : (z : Sizes) (g : MempoolConfig) → settled z g ≡ true → 1 ≤ g.cost_per_peer_per_block → Bounds g
 unfolding settled
@@ -150,7 +152,7 @@ unfolding empty
 empty-pass g = rw no-id
 
 -- the state that an accepted start of this very store handed back
-module _ (m : Moment) (g : MempoolConfig) (e : started (sizes_at m) g ≡ Ready m.state) where
+module _ (m : Moment) (g : MempoolConfig) (e : started (sizes_at m) g ≡ Ok m.state) where
   met : Accepted (sizes_at m) g m.state
   met = accepted-start (sizes_at m) g m.state e
 
@@ -184,7 +186,7 @@ module _ (m : Moment) (g : MempoolConfig) (e : started (sizes_at m) g ≡ Ready 
   begun-empty =
       record {
         sizes = sizes_at m;
-        accepted = e ∙ ap Ready met.state;
+        accepted = e ∙ ap Ok met.state;
         kept = start-kept;
         config = refl;
         world = empty-world m.entries m.boxes m.cache m.peers g;

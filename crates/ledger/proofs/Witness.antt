@@ -1,12 +1,12 @@
 -- Changes of pool and book, computed side by side: what the pool's tables are after them and what the book says. The laws are for all tables; these are
 -- some that a reader can follow, and that a wrong book or ledger fails by computation.
+use Rattle.std.specs.Prelude.{None}
 use Rattle.std.specs.Prelude.{ℕ, ◌≡◌, refl, false, List, [], ◌∷◌, map}
 use Rattle.pool_types.specs.declared.MempoolConfig.{MempoolConfig}
 use Rattle.pool_types.specs.declared.FeeStrategy.TheVariants.{FeePerByte}
 use Rattle.pool_types.specs.declared.Source.TheVariants.{Local}
 use Rattle.pool_types.specs.Outcomes.{refused, wrote}
 use Rattle.entries.specs.Entries.{Entry, ahead}
-use Rattle.entries.specs.declared.fields.ValidationCost.TheVariants.{Unmeasured}
 use Rattle.boxes.specs.Records.{Pair, index}
 use Rattle.pool.specs.Pool.{Tables, insert_tx, remove_tx, evict}
 use Rattle.family.specs.Family.{propagated}
@@ -17,7 +17,7 @@ use Rattle.ledger.specs.Ledger.{Ledger, empty_ledger, Block, ledger, enters_retu
 use Rattle.ledger.specs.Demand3.{PriorityOrder}
 
 abbrev entry : ℕ → ℕ → Entry
-entry k w = record { id = k; weight = w; base = w; size = 0; cost = 0; validation_cost = Unmeasured; created = 0; last_checked = 0; height_key = 0; inputs = 0 }
+entry k w = record { id = k; weight = w; base = w; size = 0; cost = 0; validation_cost = None; created = 0; last_checked = 0; height_key = 0; inputs = 0 }
 
 -- a transaction enters and its walk credits its base
 abbrev arrives : ℕ → ℕ → List ℕ → List ℕ → Tables → Tables
@@ -106,7 +106,7 @@ blocks = (refl, refl)
 -- a transaction that comes back enters without credits
 abbrev back : UnconfirmedTx
 back =
-    record { id = record { a = 0; b = 0; c = 0; d = 5 }; fee = 40; size = 1024; cost = 0; validation_cost = Unmeasured; created = 0; last_checked = 0; source = Local }
+    record { id = record { a = 0; b = 0; c = 0; d = 5 }; fee = 40; size = 1024; cost = 0; validation_cost = None; created = 0; last_checked = 0; source = Local }
 
 comes_back : map tx_weight (enters_return settings back [] [] empty_ledger).book.txs ≡ 40 ∷ []
 unfolding enters_return enters tx_weight

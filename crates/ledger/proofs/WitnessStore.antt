@@ -1,5 +1,6 @@
 -- Stores for a list of calls that a reader can follow (WitnessRun.antt): six worlds, and words that decode to them. Ids are small numbers, of one word. This
 -- file knows how the tables lie in words; the list of calls knows the worlds alone. That the words are kept is computed (WitnessTests.antt).
+use Rattle.std.specs.Prelude.{Some}
 use Rattle.std.specs.Prelude.{ℕ, zero, suc, ◌-◌, ◌≡◌, refl, Bool, true, false, List, [], ◌∷◌, ◌++◌, leb, length, get_or, replicate}
 use Rattle.std.proofs.Common.{ap, arith, leb-true}
 use Rattle.words.specs.Ids.{num, id_of, id_at, join_is}
@@ -17,7 +18,6 @@ use Rattle.entries.specs.Cells.{slot_count, cell, raw_at, bucket_key, slot_of, e
 use Rattle.entries.specs.Index as E
 use Rattle.entries.specs.Layout.{tag_of, value_of, entries_room, entries_of, entry_at}
 use Rattle.entries.specs.Layout.{ok-room as entries-room}
-use Rattle.entries.specs.declared.fields.ValidationCost.TheVariants.{Measured}
 use Rattle.boxes.specs.Records.{BoxRec}
 use Rattle.boxes.specs.Layout.{head_place, key_at, kind_at, key_word, used_word, slot_at, slots_of, slots_used, records_in, boxes_of, boxes_room}
 use Rattle.boxes.specs.Layout.{room-ok as boxes-room}
@@ -43,7 +43,7 @@ plain d = small d
 -- ---- the worlds
 
 abbrev tx : ℕ → ℕ → ℕ → Entry
-tx k w b = record { id = k; weight = w; base = b; size = 1024; cost = 1024; validation_cost = Measured 500; created = 0; last_checked = 0; height_key = 2147483648; inputs = 1 }
+tx k w b = record { id = k; weight = w; base = b; size = 1024; cost = 1024; validation_cost = Some 500; created = 0; last_checked = 0; height_key = 2147483648; inputs = 1 }
 
 abbrev input : ℕ → ℕ → BoxRec
 input b k = record { box = b; owner = k; out = false; live = true }

@@ -1,11 +1,13 @@
 -- Lists of calls (document 01, "Demand 3": "A list begins with what an accepted start left; each call gets store and state as the last left or returned
 -- them; nobody else writes them; arguments and answer buffers are apart."). A step is what the ledger needs of a call and no more: outcome, decoded store
 -- and pass are those of the call's own definition, and the settings stay. That each call's contract gives its step is Steps.antt.
+use Rattle.pool_types.specs.Refusals.{refusal_number}
+use Rattle.pool_types.specs.declared.Refusal.{Refusal}
+use Rattle.std.specs.Prelude.{Err, Ok}
 use Rattle.std.specs.Prelude.{ℕ, ◌≤◌, ◌≡◌, List, [], ◌∷◌, length}
 use Rattle.pool_types.specs.declared.Mempool.{Mempool}
 use Rattle.pool_types.specs.declared.MempoolConfig.{MempoolConfig}
 use Rattle.pool_types.specs.declared.Submission.{Submission}
-use Rattle.pool_types.specs.declared.StartOutcome.TheVariants.{Ready, NotStarted}
 use Rattle.pool_types.specs.Outcomes.{Outcome, refused}
 use Rattle.stats.specs.declared.FeeStats.{FeeStats}
 use Rattle.expiring_cache.specs.Layout.{cache_room}
@@ -85,9 +87,9 @@ pub record BlockStep (m n : Moment) (time : ℕ) (txs ins : List ℕ) (o : Outco
 
 -- a start that is refused: "nothing changes"
 pub record StartStep (m n : Moment) (c : MempoolConfig) (o : Outcome) : Type 0 where
-  pub code : ℕ
-  pub outcome : o ≡ refused code 0
-  pub post : NotStarted code ≡ started (sizes_at m) c
+  pub why : Refusal
+  pub outcome : o ≡ refused (refusal_number why) 0
+  pub post : Err why ≡ started (sizes_at m) c
   pub left : Becomes m n o (still o (world_at m) (pass_at m))
 
 -- ---- a step, and a list of them, the last first. A query changes nothing; what it answers its contract says.
@@ -110,7 +112,7 @@ nothing = world (record { entries = []; boxes = [] }) [] 0 []
 -- "what an accepted start left": a store of these sizes may be started with these settings; nothing is held, and no pass is open
 pub record Begun (g : MempoolConfig) (m : Moment) : Type 0 where
   pub sizes : Sizes
-  pub accepted : started sizes g ≡ Ready (empty g)
+  pub accepted : started sizes g ≡ Ok (empty g)
   pub kept : KeptAt m
   pub config : m.state.config ≡ g
   pub world : world_at m ≡ nothing

@@ -1,11 +1,11 @@
 -- Entries listed into an answer buffer: six words each, "id, weight and base of each entry" (document 01; docs/DECISIONS.md, D5 and D6).
-use Prim.Native.Nat.{ℕ, ◌+◌, ◌*◌, ◌/◌, ◌≤◌, ◌<◌, min}
-use Rattle.std.specs.Prelude.{◌≡◌, refl, List, [], ◌∷◌, ◌++◌, map, leb, ltb, length, get_or, drop, set}
+use Prim.Native.Nat.{ℕ, ◌+◌, ◌*◌, ◌/◌, ◌≤◌, min}
+use Rattle.std.specs.Prelude.{◌≡◌, refl, Result, Ok, List, [], ◌∷◌, ◌++◌, map, leb, ltb, length, get_or, drop, set}
 use Rattle.std.proofs.Common.{sym, ap, ◌∙◌, length-set, drop-set-lt, drop-drop, take_all}
 use native.Mathlib.Omega.{arith}
 use Rattle.std.proofs.Math.ListN.{take}
 use Rattle.std.proofs.lemmas.List.{length-map}
-use borrow.Author.Tests.{le-leb, lt-leb, le-ltb, lt-ltb}
+use borrow.Author.Tests.{le-leb, le-ltb}
 use Rattle.words.specs.Lists.{pick, map-append}
 use Rattle.words.specs.Rows.{stored, rec_at, recs, length-recs, get_or-recs, take-recs, recs-store}
 use Rattle.words.specs.Tables.{Table, put-end, of_none, of-suc}
@@ -13,8 +13,7 @@ use Rattle.words.specs.Ids.{id_of, id_at, id_words}
 use Rattle.words.specs.declared.ids.Id.{Id}
 use Rattle.pool_types.specs.declared.Mempool.{Mempool}
 use Rattle.pool_types.specs.Outcomes.{Outcome, refused, wrote, listed_of}
-use Rattle.pool_types.specs.declared.ListOutcome.{ListOutcome}
-use Rattle.pool_types.specs.declared.ListOutcome.TheVariants.{Listed, NotListed}
+use Rattle.pool_types.specs.declared.Refusal.{Refusal}
 use Rattle.entries.specs.Entries.{Entry}
 use Rattle.entries.specs.Layout.{entry_at, entries_of, entries_room, entries}
 
@@ -69,7 +68,7 @@ top_of e st words limit =
     (listing (wrote (min limit st.counts.pooled)) (map brief (take limit (entries_of e st.counts.pooled)))))
     (listing (refused 1 0) [])
 
-pub record Topped (l m : List ℕ) (o : ListOutcome) (t : Listing) : Type 0 where
+pub record Topped (l m : List ℕ) (o : Result ℕ Refusal) (t : Listing) : Type 0 where
   pub outcome : listed_of o ≡ t.outcome
   pub answer : Laid l m t.rows
 
@@ -124,17 +123,9 @@ laying-all e l₀ l i k q w =
     let n : length (map brief (entries_of e k)) ≡ i = length-map (entries_of e k) brief ∙ entries.len e k ∙ sym q in
     record { kept = w.kept; rows = rw (n, ← q) w.rows; rest = rw n w.rest }
 
--- ---- test by test
+-- ---- where nothing is refused
 
 module _ (e : List ℕ) (st : Mempool) (words limit : ℕ) where
-  pub top-entries : entries_room e < st.counts.pooled → top_of e st words limit ≡ listing (refused 1 0) []
-  unfolding top_of
-  top-entries h = rw (lt-leb _ _ h)
-
-  pub top-short : st.counts.pooled ≤ entries_room e → words / 6 < min limit st.counts.pooled → top_of e st words limit ≡ listing (refused 2 0) []
-  unfolding top_of
-  top-short h g = rw (le-leb _ _ h, lt-ltb _ _ g)
-
   pub top-listed : st.counts.pooled ≤ entries_room e → min limit st.counts.pooled ≤ words / 6
       → top_of e st words limit ≡ listing (wrote (min limit st.counts.pooled)) (map brief (entries_of e (min limit st.counts.pooled)))
   unfolding top_of
@@ -150,11 +141,7 @@ module _ (e : List ℕ) (st : Mempool) (words limit : ℕ) where
 pub laid_none : (l : List ℕ) → Laid l l []
 laid_none l = record { kept = refl; rows = of_none rows l; rest = refl }
 
--- a refusal leaves the buffer as it is; a listing leaves the rows in it
-pub topped-refused : (l : List ℕ) (n : ℕ) (t : Listing) → t ≡ listing (refused n 0) [] → Topped l l (NotListed n) t
-unfolding listed_of
-topped-refused l n t e = rw e (record { outcome = refl; answer = laid_none l })
-
-pub topped-listed : (l m e : List ℕ) (k j : ℕ) (t : Listing) → k ≡ j → t ≡ listing (wrote j) (map brief (entries_of e j)) → Laid l m (map brief (entries_of e k)) → Topped l m (Listed k) t
+-- a listing leaves the rows in it
+pub topped-listed : (l m e : List ℕ) (k j : ℕ) (t : Listing) → k ≡ j → t ≡ listing (wrote j) (map brief (entries_of e j)) → Laid l m (map brief (entries_of e k)) → Topped l m (Ok k) t
 unfolding listed_of
 topped-listed l m e k j t q d a = rw d (record { outcome = ap wrote q; answer = rw (← q) a })

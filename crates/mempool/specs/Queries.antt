@@ -1,22 +1,18 @@
 -- The queries that need no statistics, as functions of what the store holds (document 01, "Fee and wait": "`all_prioritized` and `top` write id,
 -- weight and base of each entry; `len`, `contains` and `spending_tx` are as written"). Counts that do not fit the lent slices are refusal 1
 -- (docs/DECISIONS.md, D2).
-use Rattle.std.specs.Prelude.{ℕ, ◌≤◌, ◌<◌, ◌≡◌, Bool, true, false, List, [], ◌∷◌, leb}
-use Rattle.std.proofs.Math.Path.{refl}
-use borrow.Author.Tests.{le-leb, lt-leb}
+use Rattle.std.specs.Prelude.{Option, None, Some, Result, Ok, Err}
+use Rattle.std.specs.Prelude.{ℕ, ◌<◌, ◌≡◌, Bool, true, false, List, [], ◌∷◌, leb}
 use Rattle.words.specs.Lists.{pick}
 use Rattle.words.specs.Find.{found}
 use Rattle.words.specs.Ids.{id_of}
 use Rattle.pool_types.specs.declared.Mempool.{Mempool}
-use Rattle.pool_types.specs.declared.EntryOutcome.{EntryOutcome}
-use Rattle.pool_types.specs.declared.EntryOutcome.TheVariants.{Entry as Seen, NoEntry, NotLooked}
-use Rattle.pool_types.specs.declared.TestOutcome.{TestOutcome}
-use Rattle.pool_types.specs.declared.TestOutcome.TheVariants.{Yes, No, NotTested}
+use Rattle.pool_types.specs.declared.PooledTx.{PooledTx}
+use Rattle.pool_types.specs.declared.Refusal.{Refusal}
 use Rattle.pool_types.specs.Outcomes.{Outcome, refused, said, entry, none}
 use Rattle.entries.specs.Entries.{Entry, pooled, place_of}
 use Rattle.entries.specs.Laws.{at_place, no_place}
 use Rattle.entries.specs.Layout.{entry_at, entries_of, entries_room, entries}
-use Rattle.entries.specs.declared.table.Place.TheVariants.{At, Nowhere}
 use Rattle.boxes.specs.Records.{index, lookup}
 use Rattle.boxes.specs.Layout.{boxes_of, boxes_room}
 use Rattle.expiring_cache.specs.Cache.{held}
@@ -57,70 +53,20 @@ unfoldable pub spending_with : List ℕ → List ℕ → Mempool → Outcome →
 spending_with e b st o = fitted (leb st.counts.pooled (entries_room e)) (fitted (leb st.counts.records (boxes_room b)) o)
 
 -- what an answer says, where it is no refusal
-abbrev pub test_said : TestOutcome → Outcome
-test_said Yes = said true
-test_said No = said false
-test_said (NotTested n) = said false
+abbrev pub test_said : Result Bool Refusal → Outcome
+test_said (Ok b) = said b
+test_said (Err r) = said false
 
-abbrev pub entry_seen : EntryOutcome → Outcome
-entry_seen (Seen x w b) = entry (id_of x) w b
-entry_seen NoEntry = none
-entry_seen (NotLooked n) = none
-
--- ---- test by test
-
--- on any words, and what document 01 asks for: its last two arguments are the time and the id
-module _ (e k : List ℕ) (st : Mempool) where
-  pub contains-entries : (o : Outcome) → entries_room e < st.counts.pooled → refused 1 0 ≡ contains_with e k st o
-  unfolding contains_with
-  contains-entries o h = rw (lt-leb _ _ h)
-
-  pub contains-cache : (o : Outcome) → st.counts.pooled ≤ entries_room e → cache_room k < st.cached → refused 1 0 ≡ contains_with e k st o
-  unfolding contains_with
-  contains-cache o h g = rw (le-leb _ _ h, lt-leb _ _ g)
-
-  pub contains-is : (time id : ℕ)
-      → contains_of e k st time id ≡ contains_with e k st (said (pick (pooled id (entries_of e st.counts.pooled)) true (held st.config.invalidation_ttl time id (cache_of k st.cached))))
-  unfolding contains_of contains_with
-  contains-is time id = refl
-
-  module _ (h : st.counts.pooled ≤ entries_room e) (g : st.cached ≤ cache_room k) where
-    pub contains-said : (o : Outcome) → o ≡ contains_with e k st o
-    unfolding contains_with
-    contains-said o = rw (le-leb _ _ h, le-leb _ _ g)
-
-    pub contains-pooled : (time id : ℕ) → pooled id (entries_of e st.counts.pooled) ≡ true → said true ≡ contains_of e k st time id
-    contains-pooled time id p = rw (contains-is time id, p) (contains-said (said true))
-
-    pub contains-held : (time id : ℕ) → pooled id (entries_of e st.counts.pooled) ≡ false → (b : Bool) → b ≡ held st.config.invalidation_ttl time id (cache_of k st.cached) → said b ≡ contains_of e k st time id
-    contains-held time id p b q = rw (contains-is time id, p, ← q) (contains-said (said b))
-
-module _ (e b : List ℕ) (st : Mempool) where
-  pub spending-entries : (o : Outcome) → entries_room e < st.counts.pooled → refused 1 0 ≡ spending_with e b st o
-  unfolding spending_with
-  spending-entries o h = rw (lt-leb _ _ h)
-
-  pub spending-boxes : (o : Outcome) → st.counts.pooled ≤ entries_room e → boxes_room b < st.counts.records → refused 1 0 ≡ spending_with e b st o
-  unfolding spending_with
-  spending-boxes o h g = rw (le-leb _ _ h, lt-leb _ _ g)
-
-  pub spending-is : (box : ℕ) → spending_of e b st box ≡ spending_with e b st (spender_in (entries_of e st.counts.pooled) (lookup (index false (boxes_of b st.counts.records)) box))
-  unfolding spending_of spending_with
-  spending-is box = refl
-
-  module _ (h : st.counts.pooled ≤ entries_room e) (g : st.counts.records ≤ boxes_room b) where
-    pub spending-seen : (o : Outcome) → o ≡ spending_with e b st o
-    unfolding spending_with
-    spending-seen o = rw (le-leb _ _ h, le-leb _ _ g)
-
-    pub spending-by : (box : ℕ) (ks : List ℕ) → ks ≡ lookup (index false (boxes_of b st.counts.records)) box → spender_in (entries_of e st.counts.pooled) ks ≡ spending_of e b st box
-    spending-by box ks q = rw (spending-is box, ← q) (spending-seen (spender_in (entries_of e st.counts.pooled) ks))
+abbrev pub entry_seen : Result (Option PooledTx) Refusal → Outcome
+entry_seen (Ok (Some t)) = entry (id_of t.id) t.weight t.base
+entry_seen (Ok None) = none
+entry_seen (Err r) = none
 
 -- ---- an entry by its place
 
-pub entry_here : (l : List ℕ) (n i k x w b : ℕ) → i < n → place_of k (entries_of l n) ≡ At i → x ≡ (entry_at l i).id → w ≡ (entry_at l i).weight → b ≡ (entry_at l i).base
+pub entry_here : (l : List ℕ) (n i k x w b : ℕ) → i < n → place_of k (entries_of l n) ≡ Some i → x ≡ (entry_at l i).id → w ≡ (entry_at l i).weight → b ≡ (entry_at l i).base
     → entry x w b ≡ entry_outcome (found (λ x. x.id) k (entries_of l n))
 entry_here l n i k x w b h p y v u = rw ((at_place k i (entries_of l n) p).one (entry_at l i), entries.get l n i (entry_at l i) h, y, v, u)
 
-pub entry_absent : (l : List ℕ) (n k : ℕ) → place_of k (entries_of l n) ≡ Nowhere → none ≡ entry_outcome (found (λ x. x.id) k (entries_of l n))
+pub entry_absent : (l : List ℕ) (n k : ℕ) → place_of k (entries_of l n) ≡ None → none ≡ entry_outcome (found (λ x. x.id) k (entries_of l n))
 entry_absent l n k p = rw (no_place k (entries_of l n) p).none

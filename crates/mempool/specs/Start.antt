@@ -1,15 +1,14 @@
 -- A start: the settings and the sizes of the lent store (document 01, refusal 6: "settings: E, R or K outside its range, other than 256 peer
 -- records, capacity above E−1, cache above K, a cost limit above 2^63").
-use Rattle.std.specs.Prelude.{ℕ, ◌≡◌, Bool, not, eqb, leb, ltb}
+use Rattle.std.specs.Prelude.{ℕ, ◌≡◌, Bool, Result, Ok, Err, not, eqb, leb, ltb}
 use Rattle.std.proofs.Math.Path.{refl}
-use Rattle.std.proofs.Common.{ap, ◌∙◌}
 use Rattle.std.proofs.Math.Bool.{true, false}
 use Rattle.words.specs.Lists.{pick}
 use Rattle.pool_types.specs.declared.MempoolConfig.{MempoolConfig}
 use Rattle.pool_types.specs.declared.Mempool.{Mempool}
-use Rattle.pool_types.specs.declared.StartOutcome.{StartOutcome}
-use Rattle.pool_types.specs.declared.StartOutcome.TheVariants.{Ready, NotStarted}
-use Rattle.pool_types.specs.Outcomes.{Outcome, done, refused, start_of}
+use Rattle.pool_types.specs.declared.Refusal.{Refusal}
+use Rattle.pool_types.specs.declared.Refusal.TheVariants.{Settings}
+use Rattle.pool_types.specs.Outcomes.{Outcome, done, refused}
 
 -- "E entries (1 to 4,096), R box records (1 to 65,536) and K cache ids (1 to 10,000) are the sizes of the lent store"
 abbrev pub within : ℕ → ℕ → Bool
@@ -60,8 +59,8 @@ empty c =
           };
     }
 
-unfoldable pub started : Sizes → MempoolConfig → StartOutcome
-started z c = pick (sized z) (pick (settled z c) (Ready (empty c)) (NotStarted 6)) (NotStarted 6)
+unfoldable pub started : Sizes → MempoolConfig → Result Mempool Refusal
+started z c = pick (sized z) (pick (settled z c) (Ok (empty c)) (Err Settings)) (Err Settings)
 
 -- .. and in document 01's numbers: 6, or ready
 unfoldable pub start_answer : Sizes → MempoolConfig → Outcome
@@ -72,31 +71,3 @@ start_answer z c = pick (sized z) (pick (settled z c) done (refused 6 0)) (refus
 edges : (sized (sizes 4096 65536 10000 256) ≡ true) × (sized (sizes 4097 1 1 256) ≡ false) × (sized (sizes 1 1 0 256) ≡ false) × (sized (sizes 1 1 1 255) ≡ false)
 unfolding sized
 edges = (refl, refl, refl, refl)
-
--- ---- a start, test by test
-
-module _ (z : Sizes) (c : MempoolConfig) where
-  pub not-sized : sized z ≡ false → NotStarted 6 ≡ started z c
-  unfolding started
-  not-sized h = rw h
-
-  pub not-settled : sized z ≡ true → settled z c ≡ false → NotStarted 6 ≡ started z c
-  unfolding started
-  not-settled h k = rw (h, k)
-
-  pub is-ready : (st : Mempool) → sized z ≡ true → settled z c ≡ true → st ≡ empty c → Ready st ≡ started z c
-  unfolding started
-  is-ready st h k e = rw (h, k, e)
-
-  pub start-answer : start_of (started z c) ≡ start_answer z c
-  unfolding started start_answer start_of
-  start-answer = go (sized z) (settled z c)
-    where
-      go : (s t : Bool) → start_of (pick s (pick t (Ready (empty c)) (NotStarted 6)) (NotStarted 6)) ≡ pick s (pick t done (refused 6 0)) (refused 6 0)
-      go true true = refl
-      go true false = refl
-      go false t = refl
-
-  -- both clauses of a start's promise, from the first
-  pub promised : (o : StartOutcome) → o ≡ started z c → (o ≡ started z c) × (start_of o ≡ start_answer z c)
-  promised o e = (e, ap start_of e ∙ start-answer)

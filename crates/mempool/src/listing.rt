@@ -5,9 +5,8 @@ ghost use Rattle.entries.specs.Layout.{EntriesOk, entry_at, entries_of};
 ghost use Rattle.mempool.specs.Listing.{brief, row_words, rows_of, RowPut, Laid, Topped, top_of};
 
 use entries::fields::{base_at, entries_room, id_at, weight_at};
-use pool_types::{ListOutcome, Mempool};
+use pool_types::{Mempool, Refusal};
 use words::ids::{Id, put_id};
-use words::sums::smaller;
 
 fn put_row(answer: &mut [u64], at: usize, id: Id, weight: u64, base: u64)
     requires { at + 6 ≤ length answer.old }
@@ -31,35 +30,44 @@ fn list_entry(entries: &[u64], answer: &mut [u64], i: usize)
 }
 
 // Writes the first `k` entries.
+#[tactic(auto, unfolding(entries::specs::Layout::EntriesOk))]
 fn list_entries(entries: &[u64], answer: &mut [u64], k: usize)
     requires entries_ok { EntriesOk entries.now k }
     requires k_in_bounds { k * 6 ≤ length answer.old }
     ensures { Laid answer.old answer.new (map brief (entries_of entries.now k)) }
 {
-    let mut i = 0;
-    while i < k {
+    for i in 0..k {
         list_entry(entries, answer, i);
-        i += 1;
     }
 }
 
 // The first `limit` transactions by priority: id, weight and base of each.
-pub fn top(entries: &[u64], mempool: Mempool, answer: &mut [u64], limit: usize) -> ListOutcome
+#[tactic(auto, using(crate::specs::Listing::laid_none), unfolding(pool_types::specs::Outcomes::listed_of, crate::specs::Listing::top_of, entries::specs::Layout::EntriesOk, entries::specs::Layout::entries_room))]
+pub fn top(
+    entries: &[u64],
+    mempool: Mempool,
+    answer: &mut [u64],
+    limit: usize,
+) -> Result<usize, Refusal>
     ensures { Topped answer.old answer.new result (top_of entries.now mempool (length answer.old) limit) }
 {
     if entries_room(entries) < mempool.counts.pooled {
-        return ListOutcome::NotListed(1);
+        return Err(Refusal::Lists);
     }
-    let k = smaller(limit, mempool.counts.pooled);
+    let k = limit.min(mempool.counts.pooled);
     if answer.len() / 6 < k {
-        return ListOutcome::NotListed(2);
+        return Err(Refusal::AnswerTooSmall);
     }
     list_entries(entries, answer, k);
-    ListOutcome::Listed(k)
+    Ok(k)
 }
 
-// All transactions by priority.
-pub fn all_prioritized(entries: &[u64], mempool: Mempool, answer: &mut [u64]) -> ListOutcome
+// All transactions by priority: the Rust's name for `top` without a limit.
+pub fn all_prioritized(
+    entries: &[u64],
+    mempool: Mempool,
+    answer: &mut [u64],
+) -> Result<usize, Refusal>
     ensures { Topped answer.old answer.new result (top_of entries.now mempool (length answer.old) mempool.counts.pooled) }
 {
     top(entries, mempool, answer, mempool.counts.pooled)

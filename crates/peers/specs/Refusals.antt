@@ -1,5 +1,7 @@
 -- Refusals 25 and 26 in document 01's words. The contracts ask where the search ends (`standing`); here that is shown to say what the words say
 -- of the records in use.
+use Rattle.std.specs.Prelude.{None, Some}
+use Rattle.peers.specs.Peers.{account, Standing}
 use Rattle.std.specs.Prelude.{ℕ, ◌+◌, ◌≤◌, ◌≡◌, refl, Bool, true, false, ◌⊎◌, eqb}
 use Rattle.std.proofs.Common.{sym, ap, ◌∙◌, inl, inr, arith, eqb-true, le-leb, leb-true}
 use mathlib.Core.List.Memᴰ
@@ -8,8 +10,6 @@ use Rattle.std.proofs.lemmas.Bool.{eqb-false}
 use Rattle.words.specs.Lists.{pick, count, Once, once-head, once-tail, absent-head, absent-tail}
 use Rattle.peers.specs.Peers.{standing_from, standing, holders, at_limit, none_free}
 use Rattle.peers.specs.declared.PeerRecord.{PeerRecord}
-use Rattle.peers.specs.declared.Standing.{Standing}
-use Rattle.peers.specs.declared.Standing.TheVariants.{Has, Free}
 
 -- 25: "the peer has a record at or above its limit", among these records
 pub record AtLimit (l : List PeerRecord) (p limit : ℕ) : Type 0 where
@@ -31,18 +31,18 @@ pub record NoneFree (l : List PeerRecord) (used p : ℕ) : Type 0 where
 
 -- what a standing says of the records that were searched
 abbrev Says : List PeerRecord → ℕ → Standing → Type 0
-Says l p (Has i c) = (q : PeerRecord) × Memᴰ q l × (q.peer ≡ p) × (q.cost ≡ c)
-Says l p Free = NoRecord l p
+Says l p (Some here) = (q : PeerRecord) × Memᴰ q l × (q.peer ≡ p) × (q.cost ≡ here.sum)
+Says l p None = NoRecord l p
 
 says : (i : ℕ) (l : List PeerRecord) (p : ℕ) → Says l p (standing_from i l p)
 says i [] p = λ q m e. Memᴰ.not-nil m
 says i (r ∷ rs) p = go (eqb r.peer p) refl (standing_from (i + 1) rs p) (says (i + 1) rs p)
   where
     further : (st : Standing) → Says rs p st → eqb r.peer p ≡ false → Says (r ∷ rs) p st
-    further (Has j c) h e = (h.0, Memᴰ.tail h.1, h.2, h.3)
-    further Free h e = λ q m k. elim (Memᴰ.cases_cons m) [ inl a ↦ eqb-false r.peer p e (sym (ap (λ (x : PeerRecord). x.peer) a) ∙ k) | inr a ↦ h q a k ]
+    further (Some here) h e = (h.0, Memᴰ.tail h.1, h.2, h.3)
+    further None h e = λ q m k. elim (Memᴰ.cases_cons m) [ inl a ↦ eqb-false r.peer p e (sym (ap (λ (x : PeerRecord). x.peer) a) ∙ k) | inr a ↦ h q a k ]
 
-    go : (t : Bool) → eqb r.peer p ≡ t → (st : Standing) → Says rs p st → Says (r ∷ rs) p (pick t (Has i r.cost) st)
+    go : (t : Bool) → eqb r.peer p ≡ t → (st : Standing) → Says rs p st → Says (r ∷ rs) p (pick t (Some (account i r.cost)) st)
     go true e st h = (r, Memᴰ.head refl, eqb-true r.peer p e, refl)
     go false e st h = further st h e
 
@@ -76,16 +76,16 @@ module _ (l : List PeerRecord) (p limit : ℕ) where
   limit-met = go (standing l p) (says 0 l p)
     where
       go : (st : Standing) → Says l p st → at_limit limit st ≡ true → AtLimit l p limit
-      go (Has i c) h e = record { record_of = h.0; in_use = h.1; own = h.2; reached = rw h.3 (leb-true limit c e) }
-      go Free h e = let z : ◌≡◌ {A = ℕ} 0 1 = cc in absurd (omega arith)
+      go (Some here) h e = record { record_of = h.0; in_use = h.1; own = h.2; reached = rw h.3 (leb-true limit here.sum e) }
+      go None h e = let z : ◌≡◌ {A = ℕ} 0 1 = cc in absurd (omega arith)
 
   -- where each peer has at most one record, as charges keep it (`once-charge`)
   pub met-limit : Once (holders l) → AtLimit l p limit → at_limit limit (standing l p) ≡ true
   met-limit o a = go (standing l p) (says 0 l p)
     where
       go : (st : Standing) → Says l p st → at_limit limit st ≡ true
-      go (Has i c) h = le-leb limit c (rw (← h.3, one-cost l o h.0 a.record_of h.1 a.in_use (h.2 ∙ sym a.own)) a.reached)
-      go Free h = absurd (h a.record_of a.in_use a.own)
+      go (Some here) h = le-leb limit here.sum (rw (← h.3, one-cost l o h.0 a.record_of h.1 a.in_use (h.2 ∙ sym a.own)) a.reached)
+      go None h = absurd (h a.record_of a.in_use a.own)
 
 -- ---- 26, each way
 
@@ -94,12 +94,12 @@ module _ (l : List PeerRecord) (used p : ℕ) where
   none_left = go (standing l p) (says 0 l p)
     where
       go : (st : Standing) → Says l p st → none_free 256 used st ≡ true → NoneFree l used p
-      go (Has i c) h e = let z : ◌≡◌ {A = ℕ} 0 1 = cc in absurd (omega arith)
-      go Free h e = record { none = h; all-used = leb-true 256 used e }
+      go (Some here) h e = let z : ◌≡◌ {A = ℕ} 0 1 = cc in absurd (omega arith)
+      go None h e = record { none = h; all-used = leb-true 256 used e }
 
   pub left-none : NoneFree l used p → none_free 256 used (standing l p) ≡ true
   left-none a = go (standing l p) (says 0 l p)
     where
       go : (st : Standing) → Says l p st → none_free 256 used st ≡ true
-      go (Has i c) h = absurd (a.none h.0 h.1 h.2)
-      go Free h = le-leb 256 used a.all-used
+      go (Some here) h = absurd (a.none h.0 h.1 h.2)
+      go None h = le-leb 256 used a.all-used

@@ -1,12 +1,11 @@
 // What each peer was charged since the last block: records in a lent slice, of which the first `used` are in use. A block frees them
-// all by setting that count to 0. `find_peer` and `charge_peer` are thin over the methods by value.
+// all by setting that count to 0. `find_peer` and `charge_peer` are thin over the functions by value.
 #![tactic(auto)]
 
-ghost use Rattle.std.specs.Prelude.{◌≡◌, ◌≤◌, ◌<◌, eqb, length, drop};
+ghost use Rattle.std.specs.Prelude.{◌≡◌, ◌≤◌, ◌<◌, eqb, length, drop, find, slice_index_or, IfSome};
+ghost use Rattle.std.specs.List.{range_with_len};
 ghost use Rattle.words.specs.Sums.{cap};
-ghost use Rattle.peers.specs.Peers.{peers_of, standing, charge_peer, place_of, used_after, charged_record, at_limit, none_free};
-
-use words::sums::saturating_add;
+ghost use Rattle.peers.specs.Peers.{peers_of, standing, charge_peer, place_of, used_after, charged_record, at_limit, none_free, no_peer};
 
 #[repr(C)]
 #[derive(Clone, Copy)]
@@ -24,70 +23,63 @@ impl PeerRecord {
     }
 }
 
-// Where a peer stands among the records in use: the index of its record and its sum, or that it has none.
-#[derive(Clone, Copy)]
-pub enum Standing {
-    Has(usize, u64),
-    Free,
+// The record of a peer that has one: its index and its sum.
+#[derive(Clone, Copy, Debug, PartialEq, Eq)]
+pub struct Account {
+    pub at: usize,
+    pub sum: u64,
 }
 
-impl Standing {
-    // Refusal 25: the peer has a record at or above its limit.
-    pub fn at_limit(self, limit: u64) -> bool
-        ensures { result ≡ at_limit limit self }
-    {
-        match self {
-            Standing::Has(_, sum) => limit <= sum,
-            Standing::Free => false,
-        }
-    }
+// Where a peer stands: at its record, or nowhere.
+pub type Standing = Option<Account>;
 
-    // Refusal 26: the peer has no record, and all of them are used.
-    pub fn none_free(self, room: usize, used: usize) -> bool
-        ensures { result ≡ none_free room used self }
-    {
-        match self {
-            Standing::Has(_, _) => false,
-            Standing::Free => room <= used,
-        }
-    }
+// Refusal 25: the peer has a record at or above its limit.
+pub fn at_limit(found: Standing, limit: u64) -> bool
+    ensures { result ≡ at_limit limit found }
+{
+    found.is_some_and(|account| limit <= account.sum)
+}
 
-    // The index of the record that a charge goes to: the peer's own, or the first free one.
-    pub fn place(self, used: usize) -> usize
-        ensures { result ≡ place_of used self }
-    {
-        match self {
-            Standing::Has(at, _) => at,
-            Standing::Free => used,
-        }
-    }
+// Refusal 26: the peer has no record, and all of them are used.
+pub fn none_free(found: Standing, room: usize, used: usize) -> bool
+    ensures { result ≡ none_free room used found }
+{
+    found.is_none() && room <= used
+}
 
-    // How many records are in use after the charge.
-    pub fn used_after(self, used: usize) -> usize
-        requires { used < cap }
-        ensures { result ≡ used_after used self }
-    {
-        match self {
-            Standing::Has(_, _) => used,
-            Standing::Free => used + 1,
-        }
-    }
+// The index of the record that a charge goes to: the peer's own, or the first free one.
+pub fn place(found: Standing, used: usize) -> usize
+    ensures { result ≡ place_of used found }
+{
+    found.map_or(used, |account| account.at)
+}
 
-    // The record that is charged, after the charge.
-    pub fn charged(self, peer: u64, cost: u64) -> PeerRecord
-        ensures { result ≡ charged_record peer cost self }
-    {
-        match self {
-            Standing::Has(_, sum) => PeerRecord {
-                peer: peer,
-                cost: saturating_add(sum, cost),
-            },
-            Standing::Free => PeerRecord {
-                peer: peer,
-                cost: cost,
-            },
-        }
+// How many records are in use after the charge.
+pub fn used_after(found: Standing, used: usize) -> usize
+    requires { used < cap }
+    ensures { result ≡ used_after used found }
+{
+    if found.is_some() { used } else { used + 1 }
+}
+
+// The record that is charged, after the charge.
+pub fn charged(found: Standing, peer: u64, cost: u64) -> PeerRecord
+    ensures { result ≡ charged_record peer cost found }
+{
+    let sum = found.map_or(0, |account| account.sum);
+    PeerRecord {
+        peer,
+        cost: sum.saturating_add(cost),
     }
+}
+
+// The index of the peer's record among the first `used`.
+fn index_of(records: &[PeerRecord], used: usize, peer: u64) -> Option<usize>
+    requires { used ≤ length records.now }
+    ensures first { result ≡ find (λ i. eqb (slice_index_or records.now i no_peer).peer peer) (range_with_len 0 used) }
+    ensures within { IfSome result (λ i. i < used) }
+{
+    (0..used).find(|i| records[*i].is_of(peer))
 }
 
 // Where `peer` stands among the first `used` records.
@@ -95,15 +87,11 @@ pub fn find_peer(records: &[PeerRecord], used: usize, peer: u64) -> Standing
     requires { used ≤ length records.now }
     ensures { result ≡ standing (peers_of records.now used) peer }
 {
-    let mut i = 0;
-    while i < used {
-        let r = records[i];
-        if r.is_of(peer) {
-            return Standing::Has(i, r.cost);
-        }
-        i += 1;
-    }
-    Standing::Free
+    let at = index_of(records, used, peer)?;
+    Some(Account {
+        at,
+        sum: records[at].cost,
+    })
 }
 
 // Charges `peer`, which `find_peer` found to stand at `found`: its own record, or the first free one. The records behind those in use
@@ -113,7 +101,6 @@ pub fn charge_peer(records: &mut [PeerRecord], used: usize, found: Standing, pee
     ensures { (peers_of records.new (used_after used found) ≡ charge_peer peer cost (peers_of records.old used))
         × (drop (used_after used found) records.new ≡ drop (used_after used found) records.old) }
 {
-    let at = found.place(used);
-    let next = found.charged(peer, cost);
-    records[at] = next;
+    let at = place(found, used);
+    records[at] = charged(found, peer, cost);
 }

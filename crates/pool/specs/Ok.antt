@@ -1,6 +1,7 @@
 -- The store's validity beside room: what an accepted start leaves and every call keeps (document 01, "The ordered pool"). The entries are in priority
 -- order, each id once; every box record is a pooled transaction's; a transaction's records are its inputs, then its outputs; each box has at most one
 -- live record of each kind. Insertion of an id that is not pooled, removal, eviction and a change of weights keep it.
+use Rattle.std.specs.Prelude.{Option}
 use Rattle.std.specs.Prelude.{ℕ, zero, suc, ◌<◌, ◌≡◌, refl, Bool, true, false, not, List, [], ◌∷◌, ◌++◌, map, eqb, leb, length}
 use Rattle.std.proofs.Common.{sym, ap, ◌∙◌, append-nil, not-suc-le-zero, arith, eq-eqb, eqb-true, leb-false}
 use Rattle.std.proofs.lemmas.Bool.{eqb-false}
@@ -10,7 +11,6 @@ use Rattle.entries.specs.Entries.{Entry, weight_of, key_of, pooled, raised, cred
 use Rattle.entries.specs.Order.{count-insert, count-sort}
 use Rattle.entries.specs.InOrder.{EntriesInOrder, insert-order, without-order, not-pooled, credit-order, stamp-view, stamp-order}
 use Rattle.entries.specs.Moves.{without-rest, last_rest, changed, credit-move}
-use Rattle.entries.specs.declared.fields.ValidationCost.{ValidationCost}
 use Rattle.boxes.specs.Records.{BoxRec, enter_tx, drop_owner}
 use Rattle.boxes.specs.IndexLaws.{Use, uses, the, uses-enter, uses-drop, Unowned, OneLive, one-live-none, one-live-enter, one-live-drop}
 use Rattle.pool.specs.Pool.{Tables, insert_tx, remove_tx, remove_all, nobody, lowest, drop_low, trim, evict, credits}
@@ -236,6 +236,6 @@ ok-credits c (k ∷ ks) t o =
     ok-credits c ks (record { entries = credit c k t.entries; boxes = t.boxes })
     (ok-entries (credit c k t.entries) t (credit-order c k t.entries o.order) (λ j. credit-ids c k j t.entries o.order) o)
 
-pub ok-stamped : (k : ℕ) (v : ValidationCost) (time : ℕ) (t : Tables) → Ok t → Ok (record { entries = stamped k v time t.entries; boxes = t.boxes })
+pub ok-stamped : (k : ℕ) (v : Option ℕ) (time : ℕ) (t : Tables) → Ok t → Ok (record { entries = stamped k v time t.entries; boxes = t.boxes })
 ok-stamped k v time t o =
     ok-entries (stamped k v time t.entries) t (stamp-order k v time t.entries o.order) (λ j. ap (count j) (stamp-view k v time key_of (λ e. refl) t.entries)) o

@@ -1,11 +1,11 @@
 -- The ordered pool: the entries and the box records together (document 01, "The ordered pool").
+use Rattle.std.specs.Prelude.{None}
 use Rattle.std.specs.Prelude.{ℕ, zero, suc, ◌+◌, ◌≤◌, ◌≡◌, refl, Bool, true, false, ◌&&◌, ◌||◌, List, [], ◌∷◌, leb, ltb, length}
 use Rattle.words.specs.Lists.{pick}
 use Rattle.words.specs.Find.{without, last, drop_last}
 use Rattle.pool_types.specs.declared.Counts.{Counts}
 use Rattle.entries.specs.Entries.{Entry, ahead, insert_by, pooled, credit}
 use Rattle.entries.specs.Layout.{entries_of, entries_room, EntriesOk, EntriesKept}
-use Rattle.entries.specs.declared.fields.ValidationCost.TheVariants.{Unmeasured}
 use Rattle.boxes.specs.Records.{BoxRec, enter_tx, drop_owner}
 use Rattle.boxes.specs.Layout.{boxes_of, boxes_room, BoxesOk}
 use Rattle.boxes.specs.Index.{BoxesKept}
@@ -74,7 +74,7 @@ remove_all (k ∷ ks) t = remove_all ks (remove_tx k t)
 
 -- where there is no lowest
 abbrev pub nobody : Entry
-nobody = record { id = 0; weight = 0; base = 0; size = 0; cost = 0; validation_cost = Unmeasured; created = 0; last_checked = 0; height_key = 0; inputs = 0 }
+nobody = record { id = 0; weight = 0; base = 0; size = 0; cost = 0; validation_cost = None; created = 0; last_checked = 0; height_key = 0; inputs = 0 }
 
 -- the last in priority order
 abbrev pub lowest : Tables → Entry
@@ -107,7 +107,7 @@ credits c (k ∷ ks) es = credits c ks (credit c k es)
 -- ---- on the edges: transaction 1 of weight 30 makes box 8; transaction 2 of weight 20 spends it and makes 9
 
 abbrev sample : ℕ → ℕ → Entry
-sample k w = record { id = k; weight = w; base = w; size = 0; cost = 0; validation_cost = Unmeasured; created = 0; last_checked = 0; height_key = 0; inputs = 0 }
+sample k w = record { id = k; weight = w; base = w; size = 0; cost = 0; validation_cost = None; created = 0; last_checked = 0; height_key = 0; inputs = 0 }
 
 abbrev none : Tables
 none = record { entries = []; boxes = [] }

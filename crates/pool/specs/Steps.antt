@@ -1,18 +1,19 @@
 -- What the pool's functions leave, from what their calls leave in each table.
-use Rattle.std.specs.Prelude.{ℕ, ◌+◌, ◌-◌, ◌≡◌, refl, false, List}
+use Rattle.std.specs.Prelude.{ℕ, ◌+◌, ◌-◌, ◌≤◌, ◌≡◌, refl, false, List, length}
 use Rattle.std.proofs.Common.{ap, ◌∙◌}
 use Rattle.words.specs.Lists.{pick}
 use Rattle.words.specs.Find.{without, drop_last}
 use Rattle.pool_types.specs.declared.Counts.{Counts}
 use Rattle.entries.specs.Entries.{Entry, insert_by, pooled}
 use Rattle.entries.specs.Layout.{entries_of}
-use Rattle.entries.specs.Layout.{Left as Rows}
+use Rattle.entries.specs.Layout.{Left as Rows, ok-still as entries-still}
 use Rattle.entries.specs.Laws.{removed-count}
 use Rattle.boxes.specs.Records.{BoxRec, drop_owner}
 use Rattle.boxes.specs.Layout.{BoxesOk, boxes_of}
+use Rattle.boxes.specs.Layout.{ok-still as boxes-still}
 use Rattle.boxes.specs.Index.{BoxesKept}
 use Rattle.boxes.specs.Posts.{Entered, Dropped}
-use Rattle.pool.specs.Pool.{Tables, tables_of, PoolFits, Left, insert_tx, remove_tx, lowest, drop_low}
+use Rattle.pool.specs.Pool.{Tables, tables_of, PoolFits, Fewer, Left, insert_tx, remove_tx, lowest, drop_low}
 use Rattle.pool.specs.Laws.{away-none, as_many, fewer}
 
 abbrev counts : ℕ → ℕ → Counts
@@ -21,6 +22,11 @@ counts n r = record { pooled = n; records = r }
 -- two tables that agree in both parts
 both : {x y : List Entry} {u v : List BoxRec} → x ≡ y → u ≡ v → ◌≡◌ {A = Tables} (record { entries = x; boxes = u }) (record { entries = y; boxes = v })
 both p q = λ i. record { entries = p i; boxes = q i }
+
+-- fewer entries and records in as many words as there were
+pub fewer-fit : (e b m n : List ℕ) (c : Counts) (k r : ℕ) → PoolFits e b c → length m ≡ length e → length n ≡ length b → k ≤ c.pooled → r ≤ c.records → Fewer m n c (counts k r)
+fewer-fit e b m n c k r f p q h g =
+    record { fits = record { entries = entries-still e m k c.pooled f.entries p h; boxes = boxes-still b n r c.records f.boxes q g }; entries = h; records = g }
 
 module _ (e b : List ℕ) (c : Counts) where
   -- one came in

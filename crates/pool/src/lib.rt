@@ -26,10 +26,7 @@ use words::ids::Id;
 pub fn fits(entries: &[u64], boxes: &[u64], counts: Counts) -> bool
     ensures { result ≡ fits_test entries.now boxes.now counts }
 {
-    if entries_room(entries) < counts.pooled {
-        return false;
-    }
-    counts.records <= boxes_room(boxes)
+    counts.pooled <= entries_room(entries) && counts.records <= boxes_room(boxes)
 }
 
 // Refusal 27, turned round: whether one more entry and so many more box records have room.
@@ -38,10 +35,7 @@ pub fn room_for(entries: &[u64], boxes: &[u64], counts: Counts, needed: usize) -
     ensures room { result ≡ true → Room entries.now boxes.now counts needed }
     ensures value { BoxesKept boxes.now counts.records → result ≡ not (no_room (entries_room entries.now) (boxes_room boxes.now) (tables_of entries.now boxes.now counts) needed) }
 {
-    if entries_room(entries) <= counts.pooled {
-        return false;
-    }
-    needed <= boxes_room(boxes) - counts.records
+    counts.pooled < entries_room(entries) && needed <= boxes_room(boxes) - counts.records
 }
 
 // ---- a transaction enters and leaves
@@ -109,10 +103,8 @@ pub fn remove_all(
     ensures entries_unchanged { k ≡ 0 → (entries.new ≡ entries.old) × (boxes.new ≡ boxes.old) × (result ≡ counts) }
 {
     let mut left = counts;
-    let mut i = 0;
-    while i < k {
+    for i in 0..k {
         left = remove(entries, boxes, left, lists::id_at(list, 4, i));
-        i += 1;
     }
     left
 }

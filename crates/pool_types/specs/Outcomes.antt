@@ -1,30 +1,16 @@
 -- What each case of an outcome says in document 01's terms: a refusal's number, or the outcome with its values.
-use Rattle.std.specs.Prelude.{ℕ, Bool, true, false, ◌≡◌, refl}
+use Rattle.std.specs.Prelude.{ℕ, Bool, true, false, ◌≡◌, refl, Option, Some, None, Result, Ok, Err}
 use Rattle.words.specs.Ids.{id_of}
-use Rattle.pool_types.specs.declared.StartOutcome.{StartOutcome}
-use Rattle.pool_types.specs.declared.StartOutcome.TheVariants.{Ready, NotStarted}
+use Rattle.pool_types.specs.Refusals.{refusal_number}
+use Rattle.pool_types.specs.declared.Mempool.{Mempool}
+use Rattle.pool_types.specs.declared.Refusal.{Refusal}
+use Rattle.pool_types.specs.declared.PooledTx.{PooledTx}
 use Rattle.pool_types.specs.declared.ProcessingOutcome.{ProcessingOutcome}
 use Rattle.pool_types.specs.declared.ProcessingOutcome.TheVariants.{Accepted, Replaced, DoubleSpendLoser, VerdictNeeded, Declined}
-use Rattle.pool_types.specs.declared.ReturnOutcome.{ReturnOutcome}
-use Rattle.pool_types.specs.declared.ReturnOutcome.TheVariants.{Returned, NotReturned}
-use Rattle.pool_types.specs.declared.BlockOutcome.{BlockOutcome}
-use Rattle.pool_types.specs.declared.BlockOutcome.TheVariants.{Removed, NotApplied}
-use Rattle.pool_types.specs.declared.InvalidateOutcome.{InvalidateOutcome}
-use Rattle.pool_types.specs.declared.InvalidateOutcome.TheVariants.{Invalidated, NotInvalidated}
-use Rattle.pool_types.specs.declared.OpenOutcome.{OpenOutcome}
-use Rattle.pool_types.specs.declared.OpenOutcome.TheVariants.{Opened, NotOpened}
 use Rattle.pool_types.specs.declared.NextOutcome.{NextOutcome}
-use Rattle.pool_types.specs.declared.NextOutcome.TheVariants.{Candidate, Ended, NoPass}
+use Rattle.pool_types.specs.declared.NextOutcome.TheVariants.{Candidate, Ended}
 use Rattle.pool_types.specs.declared.AnswerOutcome.{AnswerOutcome}
-use Rattle.pool_types.specs.declared.AnswerOutcome.TheVariants.{InputMissing, AnswerNeeded, FoundInvalid, FoundValid, NotAnswered}
-use Rattle.pool_types.specs.declared.ListOutcome.{ListOutcome}
-use Rattle.pool_types.specs.declared.ListOutcome.TheVariants.{Listed, NotListed}
-use Rattle.pool_types.specs.declared.TestOutcome.{TestOutcome}
-use Rattle.pool_types.specs.declared.TestOutcome.TheVariants.{Yes, No, NotTested}
-use Rattle.pool_types.specs.declared.EntryOutcome.{EntryOutcome}
-use Rattle.pool_types.specs.declared.EntryOutcome.TheVariants.{Entry, NoEntry, NotLooked}
-use Rattle.pool_types.specs.declared.NumberOutcome.{NumberOutcome}
-use Rattle.pool_types.specs.declared.NumberOutcome.TheVariants.{Number, NoNumber}
+use Rattle.pool_types.specs.declared.AnswerOutcome.TheVariants.{InputMissing, AnswerNeeded, FoundInvalid, FoundValid}
 
 -- an outcome, of whichever call
 pub data Outcome : Type 0 where
@@ -51,62 +37,51 @@ pub data Outcome : Type 0 where
   entry : ℕ → ℕ → ℕ → Outcome
   none : Outcome
 
-unfoldable pub start_of : StartOutcome → Outcome
-start_of (Ready st) = done
-start_of (NotStarted n) = refused n 0
+-- a call that has nothing to say where it is done
+unfoldable pub done_of : Result Unit Refusal → Outcome
+done_of (Ok u) = done
+done_of (Err r) = refused (refusal_number r) 0
+
+unfoldable pub start_of : Result Mempool Refusal → Outcome
+start_of (Ok st) = done
+start_of (Err r) = refused (refusal_number r) 0
 
 unfoldable pub processed_of : ProcessingOutcome → Outcome
 processed_of Accepted = done
 processed_of (Replaced k) = wrote k
 processed_of (DoubleSpendLoser k) = refused 29 k
 processed_of VerdictNeeded = needed
-processed_of (Declined n) = refused n 0
+processed_of (Declined r) = refused (refusal_number r) 0
 
-unfoldable pub returned_of : ReturnOutcome → Outcome
-returned_of Returned = done
-returned_of (NotReturned n) = refused n 0
+-- a block, and a query that writes a list
+unfoldable pub listed_of : Result ℕ Refusal → Outcome
+listed_of (Ok k) = wrote k
+listed_of (Err r) = refused (refusal_number r) 0
 
-unfoldable pub block_of : BlockOutcome → Outcome
-block_of (Removed k) = wrote k
-block_of (NotApplied n) = refused n 0
+unfoldable pub next_of : Result NextOutcome Refusal → Outcome
+next_of (Ok (Candidate x)) = candidate (id_of x)
+next_of (Ok (Ended n)) = ended n
+next_of (Err r) = refused (refusal_number r) 0
 
-unfoldable pub invalidated_of : InvalidateOutcome → Outcome
-invalidated_of Invalidated = done
-invalidated_of (NotInvalidated n) = refused n 0
+unfoldable pub answered_of : Result AnswerOutcome Refusal → Outcome
+answered_of (Ok (InputMissing x)) = missing (id_of x)
+answered_of (Ok AnswerNeeded) = needed
+answered_of (Ok (FoundInvalid x)) = invalid (id_of x)
+answered_of (Ok (FoundValid x)) = valid (id_of x)
+answered_of (Err r) = refused (refusal_number r) 0
 
-unfoldable pub opened_of : OpenOutcome → Outcome
-opened_of Opened = done
-opened_of (NotOpened n) = refused n 0
+unfoldable pub number_of : Result ℕ Refusal → Outcome
+number_of (Ok n) = number n
+number_of (Err r) = refused (refusal_number r) 0
 
-unfoldable pub next_of : NextOutcome → Outcome
-next_of (Candidate x) = candidate (id_of x)
-next_of (Ended n) = ended n
-next_of (NoPass n) = refused n 0
+unfoldable pub tested_of : Result Bool Refusal → Outcome
+tested_of (Ok b) = said b
+tested_of (Err r) = refused (refusal_number r) 0
 
-unfoldable pub answered_of : AnswerOutcome → Outcome
-answered_of (InputMissing x) = missing (id_of x)
-answered_of AnswerNeeded = needed
-answered_of (FoundInvalid x) = invalid (id_of x)
-answered_of (FoundValid x) = valid (id_of x)
-answered_of (NotAnswered n) = refused n 0
-
-unfoldable pub listed_of : ListOutcome → Outcome
-listed_of (Listed k) = wrote k
-listed_of (NotListed n) = refused n 0
-
-unfoldable pub number_of : NumberOutcome → Outcome
-number_of (Number n) = number n
-number_of (NoNumber n) = refused n 0
-
-unfoldable pub tested_of : TestOutcome → Outcome
-tested_of Yes = said true
-tested_of No = said false
-tested_of (NotTested n) = refused n 0
-
-unfoldable pub looked_of : EntryOutcome → Outcome
-looked_of (Entry x w b) = entry (id_of x) w b
-looked_of NoEntry = none
-looked_of (NotLooked n) = refused n 0
+unfoldable pub looked_of : Result (Option PooledTx) Refusal → Outcome
+looked_of (Ok (Some t)) = entry (id_of t.id) t.weight t.base
+looked_of (Ok None) = none
+looked_of (Err r) = refused (refusal_number r) 0
 
 -- ---- what is read of an outcome where its call does not matter: the thirteen cases are told apart once, here
 

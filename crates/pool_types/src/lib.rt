@@ -1,6 +1,8 @@
 // What the pool's calls take, hand on and answer.
 #![tactic(auto)]
 
+ghost use Rattle.std.specs.Prelude.{◌≡◌};
+
 use words::ids::Id;
 
 // How a transaction is weighed: by its size, or by its cost.
@@ -38,7 +40,8 @@ pub struct Sums {
     pub peers: usize,
 }
 
-// A pass: `open` from open to ended, `out` while a candidate waits for its answer.
+// A pass: `open` from open to ended, `out` while a candidate waits for its answer. Flags and no Option: the host holds these words, and each is handed
+// back as it came.
 #[derive(Clone, Copy)]
 pub struct Pass {
     pub open: bool,
@@ -68,7 +71,7 @@ pub enum Verdict {
     Absent,
 }
 
-// Who submitted it.
+// Who submitted it. The Rust's names: an Option of a number would not say who is meant where there is none.
 #[derive(Clone, Copy)]
 pub enum Source {
     Local,
@@ -86,16 +89,50 @@ pub struct Submission {
     pub verdict: Verdict,
 }
 
-// ---- outcomes. A refusal carries document 01's number; `specs/Outcomes.antt` gives number and values of every case.
+// ---- refusals
 
-#[derive(Clone, Copy)]
-pub enum StartOutcome {
-    // the state of an empty pool
-    Ready(Mempool),
-    NotStarted(u64),
+// Why a call is refused, with the number that the rules have for it. `specs/Refusals.antt` has each number's sentence.
+#[derive(Clone, Copy, Debug, PartialEq, Eq)]
+pub enum Refusal {
+    // the lists, or counts that do not fit the store
+    Lists = 1,
+    AnswerTooSmall = 2,
+    Size = 3,
+    FeeSum = 4,
+    Cost = 5,
+    Settings = 6,
+    TooManyInputs = 7,
+    HeightAhead = 8,
+    InvalidVerdict = 9,
+    FeeBelowMinimum = 10,
+    Bins = 11,
+    PassOpen = 20,
+    NoPass = 21,
+    HeldInvalid = 22,
+    AlreadyPooled = 23,
+    BlockLimit = 24,
+    PeerLimit = 25,
+    NoPeerRecord = 26,
+    NoRoom = 27,
+    InputNotFound = 28,
+    DoubleSpend = 29,
+    PoolFull = 30,
 }
 
-#[derive(Clone, Copy)]
+impl From<Refusal> for u64 {
+    ghost use Rattle.pool_types.specs.Refusals.{refusal_number};
+
+    ghost from_gives = { λ refusal number. number ≡ refusal_number refusal };
+
+    fn from(refusal: Refusal) -> u64 {
+        refusal as u64
+    }
+}
+
+// ---- outcomes. `specs/Outcomes.antt` gives number and values of every case. A start answers the state of an empty pool, a return, an invalidation and an
+// opening nothing, a block and a query that writes a list how many ids, entries or pairs were written, a query for a number the number.
+
+#[derive(Clone, Copy, Debug, PartialEq, Eq)]
 pub enum ProcessingOutcome {
     Accepted,
     // so many ids were written: the conflicts, then the evicted
@@ -103,76 +140,27 @@ pub enum ProcessingOutcome {
     // the conflicts' ids were written
     DoubleSpendLoser(usize),
     VerdictNeeded,
-    Declined(u64),
+    Declined(Refusal),
 }
 
-#[derive(Clone, Copy)]
-pub enum ReturnOutcome {
-    Returned,
-    NotReturned(u64),
-}
-
-#[derive(Clone, Copy)]
-pub enum BlockOutcome {
-    // so many ids were written
-    Removed(usize),
-    NotApplied(u64),
-}
-
-#[derive(Clone, Copy)]
-pub enum InvalidateOutcome {
-    Invalidated,
-    NotInvalidated(u64),
-}
-
-#[derive(Clone, Copy)]
-pub enum OpenOutcome {
-    Opened,
-    NotOpened(u64),
-}
-
-#[derive(Clone, Copy)]
+#[derive(Clone, Copy, Debug, PartialEq, Eq)]
 pub enum NextOutcome {
     Candidate(Id),
     Ended(u64),
-    NoPass(u64),
 }
 
-#[derive(Clone, Copy)]
+#[derive(Clone, Copy, Debug, PartialEq, Eq)]
 pub enum AnswerOutcome {
     InputMissing(Id),
     AnswerNeeded,
     FoundInvalid(Id),
     FoundValid(Id),
-    NotAnswered(u64),
 }
 
-// A query that writes a list: so many entries, ids or pairs were written.
-#[derive(Clone, Copy)]
-pub enum ListOutcome {
-    Listed(usize),
-    NotListed(u64),
-}
-
-// A query for a yes or a no.
-#[derive(Clone, Copy)]
-pub enum TestOutcome {
-    Yes,
-    No,
-    NotTested(u64),
-}
-
-// A query for a pooled transaction: its id, weight and base.
-#[derive(Clone, Copy)]
-pub enum EntryOutcome {
-    Entry(Id, u64, u64),
-    NoEntry,
-    NotLooked(u64),
-}
-
-// A query for one number.
-#[derive(Clone, Copy)]
-pub enum NumberOutcome {
-    Number(u64),
-    NoNumber(u64),
+// A pooled transaction as a query tells it.
+#[derive(Clone, Copy, Debug, PartialEq, Eq)]
+pub struct PooledTx {
+    pub id: Id,
+    pub weight: u64,
+    pub base: u64,
 }

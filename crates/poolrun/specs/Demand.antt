@@ -1,4 +1,7 @@
 -- Demand 3 of what poolrun holds: for every input, after every line.
+use Rattle.std.specs.Prelude.{Err, Ok, Result}
+use Rattle.pool_types.specs.declared.Refusal.{Refusal}
+use Rattle.pool_types.specs.Refusals.{refusal_number}
 use Rattle.std.specs.Prelude.{ℕ, ◌/◌, ◌≤◌, ◌≡◌, Bool, not, List, [], ◌∷◌, length, take}
 use Rattle.std.proofs.Math.Path.{refl, sym, ap}
 use Rattle.std.proofs.Common.{subst, ◌∙◌, arith}
@@ -6,8 +9,6 @@ use Rattle.std.proofs.Math.Bool.{true, false}
 use Rattle.words.specs.Lists.{pick}
 use Rattle.pool_types.specs.declared.MempoolConfig.{MempoolConfig}
 use Rattle.pool_types.specs.declared.Mempool.{Mempool}
-use Rattle.pool_types.specs.declared.StartOutcome.{StartOutcome}
-use Rattle.pool_types.specs.declared.StartOutcome.TheVariants.{Ready, NotStarted}
 use Rattle.pool_types.specs.Outcomes.{Outcome, done}
 use Rattle.peers.specs.Flat.{records}
 use Rattle.store.specs.World.{world_of}
@@ -112,8 +113,8 @@ module _ {s s' : State} {t : List ℕ} (x : Answered s t s') where
       go true = same-is _
       go false = same-is _
   other-is _ e unreadable = is-as (came call.Unreadable e) (same-is _)
-  other-is _ e (refused p n q) =
-      is-as {m = started_line s.words.entries s.words.boxes s.words.cache s.words.peers s.words.answer s.kept (NotStarted n)}
+  other-is _ e (refused p f q) =
+      is-as {m = started_line s.words.entries s.words.boxes s.words.cache s.words.peers s.words.answer s.kept (Err f)}
       (came (call.Start p) e ∙ line-starts s.words s.kept s'.number 1024 x.comes.first x.comes.second p ∙ ap (started_line s.words.entries s.words.boxes s.words.cache s.words.peers s.words.answer s.kept) q)
       (record { ready = refl; config = refl; world = refl; pass = refl })
 
@@ -135,7 +136,7 @@ since-told {g} one (begins {s = s} {s' = s'} x p st q e c) =
     told-begin g (moment_of s')
     (record {
       sizes = sizes_of s.words;
-      accepted = ap (started (sizes_of s.words)) (sym c) ∙ e ∙ ap Ready new;
+      accepted = ap (started (sizes_of s.words)) (sym c) ∙ e ∙ ap Ok new;
       kept = x.leaves.holds.store;
       config = x.leaves.config ∙ ap (λ (m : Line). m.config) to ∙ ap (λ (m : Mempool). m.config) new;
       world = x.leaves.world ∙ ap (λ (m : Line). m.world) to ∙ ap (world_of s.words.entries s.words.boxes s.words.cache (records s.words.peers)) new ∙ empty-world s.words.entries s.words.boxes s.words.cache (records s.words.peers) g;
@@ -146,7 +147,7 @@ since-told {g} one (begins {s = s} {s' = s'} x p st q e c) =
     new : st ≡ empty g
     new = (accepted-start (sizes_of s.words) g st (ap (started (sizes_of s.words)) (sym c) ∙ e)).state
 
-    to : x.to ≡ started_line s.words.entries s.words.boxes s.words.cache s.words.peers s.words.answer s.kept (Ready st)
+    to : x.to ≡ started_line s.words.entries s.words.boxes s.words.cache s.words.peers s.words.answer s.kept (Ok st)
     to = came x (call.Start p) q ∙ line-starts s.words s.kept s'.number 1024 x.comes.first x.comes.second p ∙ ap (started_line s.words.entries s.words.boxes s.words.cache s.words.peers s.words.answer s.kept) e
 since-told {g} one (makes {s = s} {s' = s'} i x c q) =
     told-call g (since-told one i) (heard_of x c).call (heard_of x c).outcome
@@ -177,9 +178,9 @@ module _ {s s' : State} {t : List ℕ} (k : Known s) (x : Answered s t s') where
       let i = k (sym (x.leaves.ready ∙ (other-is x c q o).ready) ∙ r) in
       record { settings = i.settings; heard = i.heard; since = tells i.since x (subst (Other s.words) (sym q) o) }
 
-  started-line : (p : PoolForm) → call_of x.comes.form ≡ call.Start p → (z : StartOutcome) → started (sizes_of s.words) (config_of p) ≡ z → Known s'
-  started-line p q (Ready st) e = λ _. record { settings = config_of p; heard = []; since = begins x p st q e refl }
-  started-line p q (NotStarted n) e = other (call.Start p) q (refused p n e)
+  started-line : (p : PoolForm) → call_of x.comes.form ≡ call.Start p → (z : Result Mempool Refusal) → started (sizes_of s.words) (config_of p) ≡ z → Known s'
+  started-line p q (Ok st) e = λ _. record { settings = config_of p; heard = []; since = begins x p st q e refl }
+  started-line p q (Err n) e = other (call.Start p) q (refused p n e)
 
   known-call : (c : Call) → call_of x.comes.form ≡ c → Known s'
   known-call (call.Start p) q = started-line p q (started (sizes_of s.words) (config_of p)) refl

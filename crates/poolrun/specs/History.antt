@@ -1,10 +1,11 @@
 -- What poolrun was told since its last `(ready)`: the settings of the `pool` form that was accepted, and each changing form that was read since, as a
 -- call of the pool, with what it was answered. Demand 3's ledger is fed these and nothing else.
+use Rattle.pool_types.specs.declared.Refusal.{Refusal}
+use Rattle.std.specs.Prelude.{Err, Ok}
 use Rattle.std.specs.Prelude.{ℕ, ◌/◌, ◌≡◌, List, [], ◌∷◌, length, take}
 use Rattle.words.specs.Ids.{id_of}
 use Rattle.pool_types.specs.declared.MempoolConfig.{MempoolConfig}
 use Rattle.pool_types.specs.declared.Mempool.{Mempool}
-use Rattle.pool_types.specs.declared.StartOutcome.TheVariants.{Ready, NotStarted}
 use Rattle.entries.specs.Layout.{entries_room}
 use Rattle.boxes.specs.Layout.{boxes_room}
 use Rattle.expiring_cache.specs.Layout.{cache_room}
@@ -16,7 +17,7 @@ use Rattle.returns.specs.Returns.{returned, invalidated}
 use Rattle.blocks.specs.Post.{result_of as block_result}
 use Rattle.cleanup.specs.Passes.{PassResult, pass_of, still, opened, nexted, answered}
 use Rattle.lines.specs.declared.read.PoolForm.{PoolForm}
-use Rattle.console.specs.Console.{config_of, submission_of, unconfirmed_of, verdict_of}
+use Rattle.console.specs.Console.{config_of, submission_of, unconfirmed_of}
 use Rattle.console.specs.Calls.{call_of}
 use Rattle.console.specs.Calls.{words_of as list_words}
 use Rattle.console.specs.declared.Kept.{Kept}
@@ -47,7 +48,7 @@ made_call f s (Block g) = ledger.Block g.time f s
 made_call f s (Invalidate time x) = ledger.Invalidate time (id_of x)
 made_call f s (Open time limit preheader) = ledger.Open time limit preheader
 made_call f s Next = ledger.Next
-made_call f s (Answer n verdict) = ledger.Answer f (verdict_of verdict)
+made_call f s (Answer n verdict) = ledger.Answer f verdict
 
 -- what it is to come to: its outcome is what the answer's text says
 module _ (w : Words) (h : Kept) where
@@ -61,7 +62,7 @@ module _ (w : Words) (h : Kept) where
   comes_to f s (Invalidate time x) = quiet (invalidated h.mempool (world_of w.entries w.boxes w.cache (records w.peers) h.mempool) time (id_of x))
   comes_to f s (Open time limit preheader) = opened (world_of w.entries w.boxes w.cache (records w.peers) h.mempool) (pass_of h.mempool.pass) time limit preheader
   comes_to f s Next = nexted h.mempool.config (world_of w.entries w.boxes w.cache (records w.peers) h.mempool) (pass_of h.mempool.pass)
-  comes_to f s (Answer n verdict) = answered h.mempool.config (world_of w.entries w.boxes w.cache (records w.peers) h.mempool) (pass_of h.mempool.pass) f (verdict_of verdict)
+  comes_to f s (Answer n verdict) = answered h.mempool.config (world_of w.entries w.boxes w.cache (records w.peers) h.mempool) (pass_of h.mempool.pass) f verdict
 
 -- a line that was answered: the words of its lists, of a changing form
 module _ {s s' : State} {t : List ℕ} (x : Answered s t s') (c : Change) where
@@ -81,12 +82,12 @@ module _ {s s' : State} {t : List ℕ} (x : Answered s t s') (c : Change) where
 pub data Other (w : Words) : Call → Type 0 where
   asks : (q : Query) → Other w (call.Ask q)
   unreadable : Other w call.Unreadable
-  refused : (p : PoolForm) (n : ℕ) → started (sizes_of w) (config_of p) ≡ NotStarted n → Other w (call.Start p)
+  refused : (p : PoolForm) (f : Refusal) → started (sizes_of w) (config_of p) ≡ Err f → Other w (call.Start p)
 
 pub data Since (g : MempoolConfig) : List Heard → State → Type 0 where
   -- a `pool` form with these settings was accepted
   begins : {s s' : State} {t : List ℕ} (x : Answered s t s') (p : PoolForm) (st : Mempool) → call_of x.comes.form ≡ call.Start p
-      → started (sizes_of s.words) (config_of p) ≡ Ready st → config_of p ≡ g → Since g [] s'
+      → started (sizes_of s.words) (config_of p) ≡ Ok st → config_of p ≡ g → Since g [] s'
   -- a changing form was read
   makes : {h : List Heard} {s s' : State} {t : List ℕ} → Since g h s → (x : Answered s t s') (c : Change) → call_of x.comes.form ≡ call.Alter c → Since g (heard_of x c ∷ h) s'
   -- any other line

@@ -16,7 +16,6 @@ use lines::read::read_form;
 use std::io::{Read, Write};
 use std::{env, fs, io};
 use streams::{Input, Output, Sink, Source};
-use words::sums::{saturating_add, smaller};
 
 // What goes from byte to byte: what is held of the pool, how much of a line was read, and how many lines there were.
 #[derive(Clone, Copy)]
@@ -121,8 +120,8 @@ fn end_line<O: Sink>(
     requires { Running line.now entries.old boxes.old cache.old peers.old answer.old listing.old first.old second.old out.old p.kept }
     ensures { Ends (state_of line.now entries.old boxes.old cache.old peers.old answer.old p) (state_of line.now entries.new boxes.new cache.new peers.new answer.new result) out.new (O.stand to.old) (O.stand to.new) }
 {
-    let number = saturating_add(p.number, 1);
-    let n = smaller(p.len, line.len());
+    let number = p.number.saturating_add(1);
+    let n = p.len.min(line.len());
     // the last place is the newline's
     let room = 32768;
     let kept = p.kept;
@@ -208,13 +207,10 @@ fn feed<O: Sink>(
     ensures { Feeds input.now (state_of line.old entries.old boxes.old cache.old peers.old answer.old begun) (state_of line.new entries.new boxes.new cache.new peers.new answer.new result) (O.stand to.old) (O.stand to.new) }
 {
     let mut p = begun;
-    let mut i = 0;
-    while i < input.len() {
+    for b in input {
         p = step(
-            input[i], line, entries, boxes, cache, peers, answer, listing, first, second, out, to,
-            p,
+            *b, line, entries, boxes, cache, peers, answer, listing, first, second, out, to, p,
         );
-        i += 1;
     }
     p
 }
@@ -324,8 +320,7 @@ fn serve<I: Source, O: Sink>(
         over: false,
     };
     // a proved loop has to end, and nothing says that an input does
-    let mut turns = u64::MAX;
-    while turns > 0 {
+    for _turn in 0..u64::MAX {
         let n = from.read_some(input);
         p = turn(
             &input[..n],
@@ -345,7 +340,6 @@ fn serve<I: Source, O: Sink>(
         if p.over {
             return p;
         }
-        turns -= 1;
     }
     p
 }

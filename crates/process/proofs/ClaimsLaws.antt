@@ -1,10 +1,10 @@
 -- What is due from a submission that passed its tests (specs/Claims.antt).
+use Rattle.peers.specs.Peers.{Standing}
 use Rattle.std.specs.Prelude.{ℕ, ◌≡◌, List}
 use Rattle.pool_types.specs.declared.Mempool.{Mempool}
 use Rattle.pool_types.specs.declared.Submission.{Submission}
 use Rattle.peers.specs.Peers.{peers_of}
 use Rattle.peers.specs.declared.PeerRecord.{PeerRecord}
-use Rattle.peers.specs.declared.Standing.{Standing}
 use Rattle.store.specs.Fits.{Fits}
 use Rattle.checks.specs.Passed.{Passed}
 use Rattle.process.specs.Process.{standing_of}

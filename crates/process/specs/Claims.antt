@@ -1,4 +1,5 @@
 -- What the submission by value claims, way by way: its caller charges what is due to the peer records, and then all is as defined.
+use Rattle.peers.specs.Peers.{Standing}
 use Rattle.std.specs.Prelude.{ℕ, ◌/◌, ◌≤◌, min, max, ◌≡◌, Bool, true, false, not, List, leb, ltb, length}
 use Rattle.std.proofs.Math.Path.{refl, ap}
 use Rattle.std.proofs.Common.{sym, ◌∙◌, arith}
@@ -11,14 +12,16 @@ use Rattle.pool_types.specs.declared.Verdict.{Verdict}
 use Rattle.pool_types.specs.declared.Verdict.TheVariants.{Invalid, Absent}
 use Rattle.pool_types.specs.declared.ProcessingOutcome.{ProcessingOutcome}
 use Rattle.pool_types.specs.declared.ProcessingOutcome.TheVariants.{Declined, VerdictNeeded}
+use Rattle.pool_types.specs.Refusals.{refusal_number}
+use Rattle.pool_types.specs.declared.Refusal.{Refusal}
+use Rattle.pool_types.specs.declared.Refusal.TheVariants.{InvalidVerdict}
 use Rattle.pool_types.specs.Outcomes.{Outcome, refused, needed, processed_of, written_of}
 use Rattle.expiring_cache.specs.Layout.{cache_room, CacheKept, room-still, Inserted}
 use Rattle.entries.specs.Entries.{pooled}
 use Rattle.entries.specs.Layout.{entries_of}
 use Rattle.pool.specs.Pool.{PoolKept}
-use Rattle.peers.specs.Peers.{peers_of, standing}
+use Rattle.peers.specs.Peers.{peers_of}
 use Rattle.peers.specs.declared.PeerRecord.{PeerRecord}
-use Rattle.peers.specs.declared.Standing.{Standing}
 use Rattle.answers.specs.Answers.{wrote_nothing}
 use Rattle.store.specs.World.{world_of, Result, unchanged}
 use Rattle.store.specs.Fits.{Testable, Fits, Kept, all_fit, goes_on, un_not, met, was-met, cache-fits}
@@ -33,8 +36,7 @@ use Rattle.process.specs.Process.{standing_of, admitted, judged}
 use Rattle.process.specs.Post.{Post}
 use Rattle.process.specs.Numbers.{of_submission, unfit-ours, admission-ours, charging-of}
 use Rattle.process.specs.declared.Processed.{Processed}
-use Rattle.process.specs.Bills.{asked_peer, standing_for, stands, no_due, Payable, Paid, Billed, nothing-due}
-use Rattle.process.specs.declared.submission.Due.{Due}
+use Rattle.process.specs.Bills.{uncharged, Payable, Paid, Billed, nothing-due}
 use Rattle.process.specs.declared.submission.Bill.{Bill}
 use Rattle.process.specs.declared.submission.Submitted.{Submitted}
 
@@ -89,8 +91,8 @@ claims-where f h = record { payable = h.payable; ours = h.ours; post = λ x. h.p
 
 module _ (e b k : List ℕ) (ys : List PeerRecord) (a : List ℕ) (st : Mempool) where
   -- nothing changed
-  pub claims-unchanged : (o : ProcessingOutcome) (n : Outcome) {u : Due} → processed_of o ≡ n → of_submission n ≡ true → written_of n ≡ 0 → u ≡ no_due
-      → Claims (Kept e b k ys st) e b k st (record { mempool = st; outcome = o; due = u }) e b k ys a a (unchanged n (world_of e b k ys st))
+  pub claims-unchanged : (o : ProcessingOutcome) (n : Outcome) {r : Submitted} → processed_of o ≡ n → of_submission n ≡ true → written_of n ≡ 0 → r ≡ uncharged st o
+      → Claims (Kept e b k ys st) e b k st r e b k ys a a (unchanged n (world_of e b k ys st))
   claims-unchanged o n q v z w =
       rw w
       (record {
@@ -101,19 +103,19 @@ module _ (e b k : List ℕ) (ys : List PeerRecord) (a : List ℕ) (st : Mempool)
         told = omega (arith, ap written_of q ∙ z);
       })
 
-  pub claims-refused : (n : ℕ) {u : Due} → of_submission (refused n 0) ≡ true → u ≡ no_due
-      → Claims (Kept e b k ys st) e b k st (record { mempool = st; outcome = Declined n; due = u }) e b k ys a a (unchanged (refused n 0) (world_of e b k ys st))
+  pub claims-refused : (n : Refusal) {r : Submitted} → of_submission (refused (refusal_number n) 0) ≡ true → r ≡ uncharged st (Declined n)
+      → Claims (Kept e b k ys st) e b k st r e b k ys a a (unchanged (refused (refusal_number n) 0) (world_of e b k ys st))
   unfolding processed_of written_of
-  claims-refused n v w = claims-unchanged (Declined n) (refused n 0) refl v refl w
+  claims-refused n v w = claims-unchanged (Declined n) (refused (refusal_number n) 0) refl v refl w
 
-  module _ (visits room : ℕ) (sub : Submission) (ins outs : List ℕ) {v : Verdict} {u : Due} where
-    pub claims-absent : v ≡ Absent → u ≡ no_due
-        → Claims (Sure e b k ys st sub) e b k st (record { mempool = st; outcome = VerdictNeeded; due = u }) e b k ys a a (judged visits room st (world_of e b k ys st) sub ins outs v)
+  module _ (visits room : ℕ) (sub : Submission) (ins outs : List ℕ) {v : Verdict} {r : Submitted} where
+    pub claims-absent : v ≡ Absent → r ≡ uncharged st VerdictNeeded
+        → Claims (Sure e b k ys st sub) e b k st r e b k ys a a (judged visits room st (world_of e b k ys st) sub ins outs v)
     unfolding judged processed_of written_of of_submission
     claims-absent q w = rw q (claims-where (λ s. s.kept) (claims-unchanged VerdictNeeded needed refl refl refl w))
 
-    pub claims-invalid : (k' : List ℕ) (n : ℕ) → v ≡ Invalid → (CacheKept k st.cached → Inserted k k' st.cached n st.config.invalidation_capacity sub.time (id_of sub.id)) → u ≡ no_due
-        → Claims (Sure e b k ys st sub) e b k st (record { mempool = record { config = st.config; counts = st.counts; cached = n; sums = st.sums; pass = st.pass }; outcome = Declined 9; due = u }) e b k' ys a a
+    pub claims-invalid : (k' : List ℕ) (n : ℕ) → v ≡ Invalid → (CacheKept k st.cached → Inserted k k' st.cached n st.config.invalidation_capacity sub.time (id_of sub.id))
+        → r ≡ uncharged (record { config = st.config; counts = st.counts; cached = n; sums = st.sums; pass = st.pass }) (Declined InvalidVerdict) → Claims (Sure e b k ys st sub) e b k st r e b k' ys a a
         (judged visits room st (world_of e b k ys st) sub ins outs v)
     unfolding judged processed_of written_of of_submission
     claims-invalid k' n q g w =
@@ -187,9 +189,9 @@ module _ (e b k : List ℕ) (ys : List PeerRecord) (a : List ℕ) (st : Mempool)
 -- ---- as the call claims it
 
 -- where its peer stands, of what was found among so many records as are lent
-pub placed : {e b k : List ℕ} (ys : List PeerRecord) {st : Mempool} {n : ℕ} (sub : Submission) {found at : Standing} → Fits e b k ys st → length ys ≡ n → at ≡ standing_for sub.source found
-    → found ≡ standing (peers_of ys (min st.sums.peers n)) (asked_peer sub.source) → at ≡ standing_of sub.source (peers_of ys st.sums.peers)
-placed ys {st} {n} sub f l h q = h ∙ stands sub.source ys st.sums.peers n (omega (arith, f.used, f.records, l)) q
+pub placed : {e b k : List ℕ} (ys : List PeerRecord) {st : Mempool} {n : ℕ} (sub : Submission) {at : Standing} → Fits e b k ys st → length ys ≡ n
+    → at ≡ standing_of sub.source (peers_of ys (min st.sums.peers n)) → at ≡ standing_of sub.source (peers_of ys st.sums.peers)
+placed ys {st} {n} sub f l q = let e : min st.sums.peers n ≡ st.sums.peers = omega (arith, f.used, f.records, l) in q ∙ ap (λ (i : ℕ). standing_of sub.source (peers_of ys i)) e
 
 -- ---- on any words, of the test that was made of them
 
@@ -202,14 +204,14 @@ module _ (e₀ b₀ k₀ : List ℕ) (n : ℕ) (st : Mempool) {t : Bool} (q : t 
       record { tests = c.0; keeps = c.1; used = leb-true _ _ (goes_on (ltb n 256) (leb st.sums.peers 256) h.1).1 }
 
   module _ (ys : List PeerRecord) (l : length ys ≡ n) where
-    pub offers-nothing : not t ≡ true → {m : ℕ} → m ≡ pick st.pass.open 20 1 → {u : Due} → u ≡ no_due → (a : List ℕ) (s : Result)
-        → Offers e₀ b₀ k₀ st (record { mempool = st; outcome = Declined m; due = u }) e₀ b₀ k₀ ys a a s
+    pub offers-nothing : not t ≡ true → {m : Refusal} → refusal_number m ≡ pick st.pass.open 20 1 → {r : Submitted} → r ≡ uncharged st (Declined m) → (a : List ℕ) (s : Result)
+        → Offers e₀ b₀ k₀ st r e₀ b₀ k₀ ys a a s
     unfolding processed_of written_of
     offers-nothing z p w a s =
         rw w
         (record {
           payable = nothing-due ys;
-          ours = unfit-ours st.pass.open p;
+          ours = unfit-ours st.pass.open _ p;
           unfit = λ _. ap (λ (j : ℕ). refused j 0) p;
           post = λ f. absurd (no-fit e₀ b₀ k₀ ys n st l q z f.fits);
           spares = λ zs h. rw (h.spared refl) (spares-same _ (lent e₀ b₀ k₀ ys a st));

@@ -3,8 +3,11 @@ use Rattle.std.specs.Prelude.{ℕ, ◌≡◌, refl, Bool, true, false, ◌||◌,
 use Rattle.std.proofs.Common.{sym, ap, ◌∙◌, arith, eqb-true, ne_eqb}
 use Rattle.words.specs.Lists.{pick}
 use Rattle.pool_types.specs.declared.ProcessingOutcome.TheVariants.{Declined}
+use Rattle.pool_types.specs.Refusals.{refusal_number}
+use Rattle.pool_types.specs.declared.Refusal.{Refusal}
 use Rattle.pool_types.specs.Outcomes.{Outcome, processed_of, refused, done, wrote, needed, candidate, ended, missing, invalid, valid, number, said, entry, none}
 use Rattle.boxes.specs.Among.{among, among-cons}
+use Rattle.checks.specs.Laws.{numbered}
 use Rattle.checks.specs.Numbers.{refusals}
 use Rattle.admit.specs.Placed.{of_admission}
 use Rattle.store.specs.Spares.{charging}
@@ -27,16 +30,18 @@ of_submission none = false
 abbrev Ours : Outcome → Type 0
 Ours o = of_submission o ≡ true
 
--- a number that is not 0 is a refusal's
-pub refused-ours : (n k : ℕ) → (n ≡ 0 → ⊥) → among n (0 ∷ refusals) ≡ true → Ours (refused n k)
+-- what the tests of a submission refuse it with
+pub refused-ours : (r : Refusal) (k : ℕ) → among (refusal_number r) (0 ∷ refusals) ≡ true → Ours (refused (refusal_number r) k)
 unfolding of_submission
-refused-ours n k z p = sym (among-cons n 0 refusals ∙ ap (λ (x : Bool). x || among n refusals) (ne_eqb 0 n (λ y. z (sym y)))) ∙ p
+refused-ours r k p =
+    let n = refusal_number r in
+    sym (among-cons n 0 refusals ∙ ap (λ (x : Bool). x || among n refusals) (ne_eqb 0 n (λ y. numbered r (sym y)))) ∙ p
 
 -- what is answered where the words do not fit
-pub unfit-ours : (t : Bool) {n : ℕ} → n ≡ pick t 20 1 → Ours (processed_of (Declined n))
+pub unfit-ours : (t : Bool) (r : Refusal) → refusal_number r ≡ pick t 20 1 → Ours (processed_of (Declined r))
 unfolding of_submission processed_of
-unfit-ours true e = rw e
-unfit-ours false e = rw e
+unfit-ours true r e = rw e
+unfit-ours false r e = rw e
 
 -- ---- an admission's: one that refuses charges, and none asks for a verdict
 

@@ -1,4 +1,5 @@
 -- What a submission leaves, as its contract says it: one record, of words, peer records and state at exit, against a result of the definitions.
+use Rattle.peers.specs.Peers.{Standing}
 use Rattle.std.specs.Prelude.{ℕ, ◌/◌, ◌≡◌, List, length}
 use Rattle.std.proofs.Common.{eq-eqb, ne_eqb}
 use Rattle.words.specs.Lists.{yes, no}
@@ -8,7 +9,6 @@ use Rattle.pool_types.specs.declared.Verdict.{Verdict}
 use Rattle.pool_types.specs.declared.Verdict.TheVariants.{Valid}
 use Rattle.pool_types.specs.Outcomes.{refused, processed_of}
 use Rattle.peers.specs.declared.PeerRecord.{PeerRecord}
-use Rattle.peers.specs.declared.Standing.{Standing}
 use Rattle.entries.specs.Layout.{entries_room}
 use Rattle.boxes.specs.Layout.{boxes_room}
 use Rattle.answers.specs.Answers.{Wrote}

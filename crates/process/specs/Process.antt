@@ -1,5 +1,6 @@
 -- A submission (document 01, "A submission"), whole: what it answers and all that it leaves, as a function of the decoded store, the state and
 -- the arguments. The tests are crate checks', what follows a valid verdict is crate admit's.
+use Rattle.peers.specs.Peers.{Standing}
 use Rattle.std.specs.Prelude.{ℕ, List, [], eqb}
 use Rattle.words.specs.Lists.{pick}
 use Rattle.words.specs.Ids.{id_of}
@@ -13,7 +14,6 @@ use Rattle.pool_types.specs.Outcomes.{refused, needed}
 use Rattle.expiring_cache.specs.Cache.{remember}
 use Rattle.peers.specs.Peers.{standing, charge_peer}
 use Rattle.peers.specs.declared.PeerRecord.{PeerRecord}
-use Rattle.peers.specs.declared.Standing.{Standing}
 use Rattle.store.specs.World.{World, world, Result, unchanged}
 use Rattle.checks.specs.Checks.{refusal_of}
 use Rattle.admit.specs.Admit.{Admitted, cost_of, charged_sum, admit_spec}

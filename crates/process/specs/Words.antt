@@ -10,6 +10,8 @@ use Rattle.words.specs.Tables.{of-suc, of_none, put-end}
 use Rattle.pool_types.specs.declared.Mempool.{Mempool}
 use Rattle.pool_types.specs.declared.Submission.{Submission}
 use Rattle.pool_types.specs.declared.ProcessingOutcome.TheVariants.{Declined}
+use Rattle.pool_types.specs.Refusals.{refusal_number}
+use Rattle.pool_types.specs.declared.Refusal.{Refusal}
 use Rattle.pool_types.specs.Outcomes.{Outcome, refused, needed, processed_of}
 use Rattle.expiring_cache.specs.Layout.{cache_of}
 use Rattle.peers.specs.Peers.{peer_of, no_peer, peers_of}
@@ -168,12 +170,12 @@ module _ (p : List ℕ) (room : 512 ≤ length p) where
 -- ---- as the call claims it
 
 -- fewer words than 256 records
-pub too_few : (e b k p a : List ℕ) (st : Mempool) (sub : Submission) (ins outs : List ℕ) {m : ℕ} → length p < 512 → m ≡ pick st.pass.open 20 1
-    → SubmitsWords e b k p st sub ins outs e b k p a a (record { mempool = st; outcome = Declined m })
+pub too_few : (e b k p a : List ℕ) (st : Mempool) (sub : Submission) (ins outs : List ℕ) {r : Refusal} → length p < 512 → refusal_number r ≡ pick st.pass.open 20 1
+    → SubmitsWords e b k p st sub ins outs e b k p a a (record { mempool = st; outcome = Declined r })
 unfolding processed_of written_of
 too_few e b k p a st sub ins outs few q = (
   (λ f. absurd (omega (arith, f.fits.records, flats.len p (length p / 2), few))),
-  unfit-ours st.pass.open q,
+  unfit-ours st.pass.open _ q,
   (λ _. ap (λ (j : ℕ). refused j 0) q),
   spares-same _ _,
   omega arith,

@@ -7,20 +7,21 @@ mod submission;
 ghost use Rattle.std.specs.Prelude.{◌≡◌, true, false, ◌/◌, ◌≤◌, min, length};
 ghost use Rattle.words.specs.Lists.{pick};
 ghost use Rattle.pool_types.specs.Outcomes.{processed_of, refused, written_of};
-ghost use Rattle.peers.specs.Peers.{peers_of, standing};
+ghost use Rattle.peers.specs.Peers.{peers_of};
 ghost use Rattle.peers.specs.Flat.{records};
 ghost use Rattle.store.specs.Fits.{all_fit};
 ghost use Rattle.store.specs.Spares.{lent, Spares};
-ghost use Rattle.process.specs.Bills.{asked_peer, Payable, Paid};
+ghost use Rattle.process.specs.Process.{standing_of};
+ghost use Rattle.process.specs.Bills.{Payable, Paid};
 ghost use Rattle.process.specs.Numbers.{of_submission};
-ghost use Rattle.process.specs.Promises.{ProcessPromise, Submits};
+ghost use Rattle.process.specs.Promises.{ProcessPromise};
 ghost use Rattle.process.specs.Words.{SparesPeers};
 
 use peer_words::{load_peers, store_peers};
 use peers::{PeerRecord, Standing, charge_peer, find_peer};
-use pool_types::{Mempool, ProcessingOutcome, Submission};
+use pool_types::{Mempool, ProcessingOutcome, Source, Submission};
 use store::unfit;
-use submission::{Due, seek, submit};
+use submission::{Due, submit};
 
 // The words of 256 peer records.
 const PEER_WORDS: usize = 512;
@@ -34,20 +35,22 @@ pub struct Processed {
 
 // ---- the peer
 
-// Where the peer of a submission stands among the records, on a count that may not fit them.
-fn look_up(records: &[PeerRecord], mempool: Mempool, sub: Submission) -> Standing
-    ensures { result ≡ standing (peers_of records.now (min mempool.sums.peers (length records.now))) (asked_peer sub.source) }
+// Where the peer of a submission stands among the records, on a count that may not fit them. A local one stands nowhere.
+fn look_up(records: &[PeerRecord], mempool: Mempool, source: Source) -> Standing
+    ensures { result ≡ standing_of source (peers_of records.now (min mempool.sums.peers (length records.now))) }
 {
-    let sought = seek(mempool, sub, records.len());
-    find_peer(records, sought.used, sought.peer)
+    match source {
+        Source::Local => None,
+        Source::Peer(peer) => find_peer(records, mempool.sums.peers.min(records.len()), peer),
+    }
 }
 
 // Charges what is due to the record of its peer.
-fn charge(records: &mut [PeerRecord], due: Due)
+fn charge(records: &mut [PeerRecord], due: Option<Due>)
     requires { Payable records.old due }
     ensures { Paid records.old records.new due }
 {
-    if due.owed {
+    if let Some(due) = due {
         charge_peer(records, due.used, due.standing, due.peer, due.cost);
     }
 }
@@ -72,14 +75,14 @@ pub fn process(
         × Spares (processed_of result.outcome) (lent entries.old boxes.old cache.old peers.old answer.old mempool) (lent entries.new boxes.new cache.new peers.new answer.new result.mempool)
         × (written_of (processed_of result.outcome) ≤ length answer.old / 4) }
 {
-    let found = look_up(peers, mempool, sub);
+    let standing = look_up(peers, mempool, sub.source);
     let done = submit(
         entries,
         boxes,
         cache,
         answer,
         peers.len(),
-        found,
+        standing,
         mempool,
         sub,
         inputs,
@@ -93,42 +96,6 @@ pub fn process(
 }
 
 // ---- over flat words, for callers that hold the peer records so
-
-// What is handed back where the peer records go in and out by value.
-#[derive(Clone, Copy)]
-struct Handed {
-    records: [PeerRecord; 256],
-    processed: Processed,
-}
-
-// The peer records are a local, which is lent.
-fn by_value(
-    entries: &mut [u64],
-    boxes: &mut [u64],
-    cache: &mut [u64],
-    peers: [PeerRecord; 256],
-    answer: &mut [u64],
-    mempool: Mempool,
-    sub: Submission,
-    inputs: &[u64],
-    outputs: &[u64],
-) -> Handed
-    ensures { Submits entries.old boxes.old cache.old peers mempool sub inputs.now outputs.now entries.new boxes.new cache.new result.records answer.old answer.new result.processed }
-{
-    let mut records = peers;
-    let processed = process(
-        entries,
-        boxes,
-        cache,
-        &mut records,
-        answer,
-        mempool,
-        sub,
-        inputs,
-        outputs,
-    );
-    Handed { records, processed }
-}
 
 // Submits a transaction, the peer records in words, two each; fewer than 256 of them are counts that do not fit.
 pub fn process_words(
@@ -155,12 +122,18 @@ pub fn process_words(
             outcome: ProcessingOutcome::Declined(unfit(mempool.pass.open)),
         };
     }
-    let held = load_peers(peers);
-    let done = by_value(
-        entries, boxes, cache, held, answer, mempool, sub, inputs, outputs,
+    let mut records = load_peers(peers);
+    let processed = process(
+        entries,
+        boxes,
+        cache,
+        &mut records,
+        answer,
+        mempool,
+        sub,
+        inputs,
+        outputs,
     );
-    let left = done.records;
-    store_peers(peers, left);
-    let processed = done.processed;
+    store_peers(peers, records);
     processed
 }

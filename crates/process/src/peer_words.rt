@@ -13,16 +13,12 @@ pub fn load_peers(words: &[u64]) -> [PeerRecord; 256]
     requires { 512 ≤ length words.now }
     ensures { result ≡ flat_peers words.now 256 }
 {
-    let none = PeerRecord { peer: 0, cost: 0 };
-    let mut records = [none; PEER_RECORDS];
-    let mut i = 0;
-    while i < PEER_RECORDS {
-        let at = i * 2;
+    let mut records = [PeerRecord { peer: 0, cost: 0 }; PEER_RECORDS];
+    for i in 0..PEER_RECORDS {
         records[i] = PeerRecord {
-            peer: words[at],
-            cost: words[at + 1],
+            peer: words[i * 2],
+            cost: words[i * 2 + 1],
         };
-        i += 1;
     }
     records
 }
@@ -32,12 +28,9 @@ pub fn store_peers(words: &mut [u64], records: [PeerRecord; 256])
     requires { 512 ≤ length words.old }
     ensures { Stored words.old words.new records 256 × (length records ≡ 256) }
 {
-    let mut i = 0;
-    while i < PEER_RECORDS {
-        let at = i * 2;
+    for i in 0..PEER_RECORDS {
         let record = records[i];
-        words[at] = record.peer;
-        words[at + 1] = record.cost;
-        i += 1;
+        words[i * 2] = record.peer;
+        words[i * 2 + 1] = record.cost;
     }
 }

@@ -1,6 +1,6 @@
 // A submission by value: all of it but the peer records. What is due from a peer is handed back, for the caller to charge.
 ghost use Rattle.std.specs.Prelude.{◌≡◌, List, ℕ, ◌≤◌, ◌/◌, min, length};
-ghost use Rattle.peers.specs.Peers.{peers_of, standing};
+ghost use Rattle.peers.specs.Peers.{peers_of};
 ghost use Rattle.peers.specs.declared.PeerRecord.{PeerRecord};
 ghost use Rattle.pool.specs.Pool.{tables_of};
 ghost use Rattle.checks.specs.Passed.{Passed};
@@ -8,29 +8,20 @@ ghost use Rattle.admit.specs.Admit.{admit_spec};
 ghost use Rattle.process.specs.Process.{standing_of, admitted, judged};
 ghost use Rattle.store.specs.World.{world_of};
 ghost use Rattle.store.specs.Fits.{Fits};
-ghost use Rattle.process.specs.Bills.{sought_of, asked_peer, no_due, bill_of, standing_for};
+ghost use Rattle.process.specs.Bills.{bill_of, uncharged};
 ghost use Rattle.process.specs.Post.{result_of};
 ghost use Rattle.process.specs.Claims.{Ready, Sure, Claims, Offers};
 
 use admit::admission::{admit, cost_of};
 use checks::check;
 use expiring_cache::insert;
-use peers::Standing;
-use pool_types::{Mempool, ProcessingOutcome, Source, Submission, Sums, Verdict};
+use peers::{Standing, used_after};
+use pool_types::{Mempool, ProcessingOutcome, Refusal, Source, Submission, Sums, Verdict};
 use store::{fits_all, unfit};
-use words::sums::{saturating_add, smaller};
 
-// Which peer is to be looked for, among how many records.
-#[derive(Clone, Copy)]
-pub struct Sought {
-    pub used: usize,
-    pub peer: u64,
-}
-
-// What is due from a peer, which stands so among the records in use; or that nothing is.
+// What is due from a peer, which stands so among the records in use.
 #[derive(Clone, Copy)]
 pub struct Due {
-    pub owed: bool,
     pub used: usize,
     pub standing: Standing,
     pub peer: u64,
@@ -41,7 +32,7 @@ pub struct Due {
 #[derive(Clone, Copy)]
 struct Bill {
     sums: Sums,
-    due: Due,
+    due: Option<Due>,
 }
 
 // What a submission comes to: the state as it will be once what is due was charged, and what it answers.
@@ -49,44 +40,23 @@ struct Bill {
 pub struct Submitted {
     pub mempool: Mempool,
     pub outcome: ProcessingOutcome,
-    pub due: Due,
+    pub due: Option<Due>,
 }
 
-// ---- the peer
-
-// Whom to look for, on a count that may not fit the records. A local submission looks for no one: what is found is not used.
-pub fn seek(mempool: Mempool, sub: Submission, records: usize) -> Sought
-    ensures { result ≡ sought_of mempool sub records }
-{
-    let used = smaller(mempool.sums.peers, records);
-    let source = sub.source;
-    match source {
-        Source::Local => Sought { used, peer: 0 },
-        Source::Peer(peer) => Sought { used, peer },
+impl Submitted {
+    // Nothing is due.
+    fn uncharged(mempool: Mempool, outcome: ProcessingOutcome) -> Submitted
+        ensures { result ≡ uncharged mempool outcome }
+    {
+        Submitted {
+            mempool,
+            outcome,
+            due: None,
+        }
     }
 }
 
-// Where the peer of a submission stands; a local one stands nowhere.
-fn standing_for(source: Source, found: Standing) -> Standing
-    ensures { result ≡ standing_for source found }
-{
-    match source {
-        Source::Local => Standing::Free,
-        Source::Peer(_) => found,
-    }
-}
-
-fn no_due() -> Due
-    ensures { result ≡ no_due }
-{
-    Due {
-        owed: false,
-        used: 0,
-        standing: Standing::Free,
-        peer: 0,
-        cost: 0,
-    }
-}
+// ---- the charge
 
 // A remote submission is charged to the block sum and to its peer's record, a local one to nobody.
 fn charged(sums: Sums, source: Source, standing: Standing, cost: u64) -> Bill
@@ -94,22 +64,18 @@ fn charged(sums: Sums, source: Source, standing: Standing, cost: u64) -> Bill
     ensures { result ≡ bill_of sums source standing cost }
 {
     match source {
-        Source::Local => Bill {
-            sums,
-            due: no_due(),
-        },
+        Source::Local => Bill { sums, due: None },
         Source::Peer(peer) => Bill {
             sums: Sums {
-                interblock_cost: saturating_add(sums.interblock_cost, cost),
-                peers: standing.used_after(sums.peers),
+                interblock_cost: sums.interblock_cost.saturating_add(cost),
+                peers: used_after(standing, sums.peers),
             },
-            due: Due {
-                owed: true,
+            due: Some(Due {
                 used: sums.peers,
                 standing,
                 peer,
                 cost,
-            },
+            }),
         },
     }
 }
@@ -136,26 +102,26 @@ fn valid(
         (admitted (admit_spec 500 (length answer.old / 4) mempool.config (tables_of entries.old boxes.old mempool.counts) sub cost inputs.now outputs.now)
         (world_of entries.old boxes.old k ys mempool) sub cost) }
 {
-    let source = sub.source;
-    let before = mempool.sums;
-    let bill = charged(before, source, standing, cost_of(cost, sub.size));
-    let counts = mempool.counts;
-    let config = mempool.config;
+    let bill = charged(mempool.sums, sub.source, standing, cost_of(cost, sub.size));
     let left = admit(
-        entries, boxes, counts, config, sub, cost, inputs, outputs, answer,
+        entries,
+        boxes,
+        mempool.counts,
+        mempool.config,
+        sub,
+        cost,
+        inputs,
+        outputs,
+        answer,
     );
-    let after = left.counts;
-    let outcome = left.outcome;
-    let sums = bill.sums;
-    let due = bill.due;
     Submitted {
         mempool: Mempool {
-            counts: after,
-            sums,
+            counts: left.counts,
+            sums: bill.sums,
             ..mempool
         },
-        outcome,
-        due,
+        outcome: left.outcome,
+        due: bill.due,
     }
 }
 
@@ -178,13 +144,8 @@ fn judge(
         Claims (Sure entries.old boxes.old cache.old ys mempool sub) entries.old boxes.old cache.old mempool result entries.new boxes.new cache.new ys answer.old answer.new
         (judged 500 (length answer.old / 4) mempool (world_of entries.old boxes.old cache.old ys mempool) sub inputs.now outputs.now sub.verdict) }
 {
-    let verdict = sub.verdict;
-    match verdict {
-        Verdict::Absent => Submitted {
-            mempool,
-            outcome: ProcessingOutcome::VerdictNeeded,
-            due: no_due(),
-        },
+    match sub.verdict {
+        Verdict::Absent => Submitted::uncharged(mempool, ProcessingOutcome::VerdictNeeded),
         Verdict::Invalid => {
             let cached = insert(
                 cache,
@@ -193,11 +154,10 @@ fn judge(
                 sub.time,
                 sub.id,
             );
-            Submitted {
-                mempool: Mempool { cached, ..mempool },
-                outcome: ProcessingOutcome::Declined(9),
-                due: no_due(),
-            }
+            Submitted::uncharged(
+                Mempool { cached, ..mempool },
+                ProcessingOutcome::Declined(Refusal::InvalidVerdict),
+            )
         }
         Verdict::Valid(cost) => valid(
             entries, boxes, answer, mempool, standing, sub, cost, inputs, outputs,
@@ -207,33 +167,28 @@ fn judge(
 
 // ---- the call
 
-// A submission whose peer was found so among the records, of which there are so many.
+// A submission whose peer was found to stand so among the records, of which there are so many.
 pub fn submit(
     entries: &mut [u64],
     boxes: &mut [u64],
     cache: &mut [u64],
     answer: &mut [u64],
     records: usize,
-    found: Standing,
+    standing: Standing,
     mempool: Mempool,
     sub: Submission,
     inputs: &[u64],
     outputs: &[u64],
 ) -> Submitted
-    ensures { (ys : List PeerRecord) → length ys ≡ records → found ≡ standing (peers_of ys (min mempool.sums.peers records)) (asked_peer sub.source) →
+    ensures { (ys : List PeerRecord) → length ys ≡ records → standing ≡ standing_of sub.source (peers_of ys (min mempool.sums.peers records)) →
         Offers entries.old boxes.old cache.old mempool result entries.new boxes.new cache.new ys answer.old answer.new
         (result_of entries.old boxes.old cache.old ys answer.old mempool sub inputs.now outputs.now) }
 {
     if !fits_all(entries, boxes, cache, records, mempool) {
-        return Submitted {
-            mempool,
-            outcome: ProcessingOutcome::Declined(unfit(mempool.pass.open)),
-            due: no_due(),
-        };
+        let refusal = unfit(mempool.pass.open);
+        return Submitted::uncharged(mempool, ProcessingOutcome::Declined(refusal));
     }
-    let source = sub.source;
-    let standing = standing_for(source, found);
-    let code = check(
+    let tested = check(
         entries,
         boxes,
         cache,
@@ -244,14 +199,10 @@ pub fn submit(
         inputs,
         outputs,
     );
-    if code != 0 {
-        return Submitted {
-            mempool,
-            outcome: ProcessingOutcome::Declined(code),
-            due: no_due(),
-        };
+    match tested {
+        Err(first) => Submitted::uncharged(mempool, ProcessingOutcome::Declined(first)),
+        Ok(()) => judge(
+            entries, boxes, cache, answer, mempool, standing, sub, inputs, outputs,
+        ),
     }
-    judge(
-        entries, boxes, cache, answer, mempool, standing, sub, inputs, outputs,
-    )
 }

@@ -4,7 +4,7 @@
 
 use mempool::start;
 use pool_types::{
-    Counts, FeeStrategy, Mempool, MempoolConfig, Pass, ProcessingOutcome, Source, StartOutcome,
+    Counts, FeeStrategy, Mempool, MempoolConfig, Pass, ProcessingOutcome, Refusal, Source,
     Submission, Sums, Verdict,
 };
 use process::process_words;
@@ -14,7 +14,7 @@ use words::ids::Id;
 // ---- the states
 
 // A start: an empty pool of at most 3 transactions.
-fn begin(entries: &[u64], boxes: &[u64]) -> StartOutcome {
+fn begin(entries: &[u64], boxes: &[u64]) -> Result<Mempool, Refusal> {
     let cache = [0u64; 23];
     let config = MempoolConfig {
         capacity: 3,
@@ -82,7 +82,7 @@ fn show(rt: &impl Print, outcome: ProcessingOutcome) -> io::Result<()> {
         ProcessingOutcome::Replaced(_) => print!(rt; " replaced"),
         ProcessingOutcome::DoubleSpendLoser(_) => print!(rt; " refused 29"),
         ProcessingOutcome::VerdictNeeded => print!(rt; " verdict needed"),
-        ProcessingOutcome::Declined(number) => print!(rt; " refused {number}"),
+        ProcessingOutcome::Declined(refusal) => print!(rt; " refused {}", u64::from(refusal)),
     }
 }
 
@@ -375,9 +375,8 @@ fn main(rt: HostRuntime) -> io::Result<()> {
     let mut entries = [0u64; 74];
     let mut boxes = [0u64; 81278];
     let inputs = [1u64; 25005];
-    let begun = begin(&entries, &boxes);
-    match begun {
-        StartOutcome::Ready(empty) => run(&rt, &mut entries, &mut boxes, &inputs, empty),
-        StartOutcome::NotStarted(number) => print!(rt; "start: refused {number}"),
+    match begin(&entries, &boxes) {
+        Ok(empty) => run(&rt, &mut entries, &mut boxes, &inputs, empty),
+        Err(refusal) => print!(rt; "start: refused {}", u64::from(refusal)),
     }
 }

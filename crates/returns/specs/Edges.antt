@@ -1,5 +1,6 @@
 -- A return and an invalidation on their edges, by computation: a pool of capacity 1, weighed by cost, that holds transaction 1, which spends box 7
 -- and makes box 8.
+use Rattle.std.specs.Prelude.{None}
 use Rattle.std.specs.Prelude.{ℕ, ◌≡◌, refl, Bool, true, false, List, [], ◌∷◌}
 use Rattle.words.specs.Ids.{id_of, id_at, join_is}
 use Rattle.words.specs.declared.ids.Id.{Id}
@@ -10,7 +11,6 @@ use Rattle.pool_types.specs.Outcomes.{refused, done}
 use Rattle.arguments.specs.Arguments.{height_key}
 use Rattle.expiring_cache.specs.Cache.{Held}
 use Rattle.entries.specs.Entries.{Entry, ahead}
-use Rattle.entries.specs.declared.fields.ValidationCost.TheVariants.{Unmeasured}
 use Rattle.boxes.specs.Flat.{ids_to}
 use Rattle.pool.specs.Pool.{Tables, insert_tx}
 use Rattle.store.specs.World.{World, world, unchanged}
@@ -43,7 +43,7 @@ pool passing =
 
 -- an entry of this id, weight and base
 abbrev sample : ℕ → ℕ → ℕ → Entry
-sample k w b = record { id = k; weight = w; base = b; size = 0; cost = 0; validation_cost = Unmeasured; created = 0; last_checked = 0; height_key = 0; inputs = 1 }
+sample k w b = record { id = k; weight = w; base = b; size = 0; cost = 0; validation_cost = None; created = 0; last_checked = 0; height_key = 0; inputs = 1 }
 
 abbrev none : Tables
 none = record { entries = []; boxes = [] }
@@ -62,7 +62,7 @@ before = world one cached 40 []
 
 -- of this id and size, which pays 10 and costs 4, checked last at time 3; it spends box 8 and makes box 9 at height 50
 abbrev back : ℕ → ℕ → UnconfirmedTx
-back k size = record { id = tx-id k; fee = 10; size = size; cost = 4; validation_cost = Unmeasured; created = 2; last_checked = 3; source = Local }
+back k size = record { id = tx-id k; fee = 10; size = size; cost = 4; validation_cost = None; created = 2; last_checked = 3; source = Local }
 
 abbrev ins : List ℕ
 ins = 0 ∷ 0 ∷ 0 ∷ 8 ∷ []
@@ -98,7 +98,7 @@ enters : returned 2 4 (pool false) before (back 2 300) ins outs
             base = 2560;
             size = 300;
             cost = 4;
-            validation_cost = Unmeasured;
+            validation_cost = None;
             created = 2;
             last_checked = 3;
             height_key = 2147483698;

@@ -1,46 +1,28 @@
 -- The outcomes that document 01 gives a return and an invalidation, and that they give no other, whatever they are asked.
-use Rattle.std.specs.Prelude.{ℕ, ◌≡◌, Bool, true, false, List, [], ◌∷◌}
-use Rattle.std.proofs.Common.{sym, ◌∙◌, ne_eqb}
-use Rattle.words.specs.Lists.{pick}
-use Rattle.pool_types.specs.declared.ReturnOutcome.{ReturnOutcome}
-use Rattle.pool_types.specs.declared.ReturnOutcome.TheVariants.{Returned, NotReturned}
-use Rattle.pool_types.specs.declared.InvalidateOutcome.{InvalidateOutcome}
-use Rattle.pool_types.specs.declared.InvalidateOutcome.TheVariants.{Invalidated, NotInvalidated}
-use Rattle.boxes.specs.Among.{among, among-cons}
+use Rattle.std.specs.Prelude.{ℕ, ◌≡◌, refl, Bool, true, false, List, [], ◌∷◌, Result, Ok, Err, eqb}
+use Rattle.std.proofs.Common.{sym, ap, ◌∙◌, ne_eqb, arith}
+use Rattle.pool_types.specs.Refusals.{refusal_number}
+use Rattle.pool_types.specs.declared.Refusal.{Refusal}
+use Rattle.boxes.specs.Among.{among}
 
 -- "A return tests 20, 1, 3, 23, 27"
 abbrev pub return_refusals : List ℕ
 return_refusals = 20 ∷ 1 ∷ 3 ∷ 23 ∷ 27 ∷ []
 
-unfoldable pub of_return : ReturnOutcome → Bool
-of_return Returned = true
-of_return (NotReturned n) = among n return_refusals
+unfoldable pub of_return : Result Unit Refusal → Bool
+of_return (Ok u) = true
+of_return (Err r) = among (refusal_number r) return_refusals
 
 -- an invalidation tests 20, and 1 where the counts do not fit
-unfoldable pub of_invalidation : InvalidateOutcome → Bool
-of_invalidation Invalidated = true
-of_invalidation (NotInvalidated n) = among n (20 ∷ 1 ∷ [])
+unfoldable pub of_invalidation : Result Unit Refusal → Bool
+of_invalidation (Ok u) = true
+of_invalidation (Err r) = among (refusal_number r) (20 ∷ 1 ∷ [])
 
--- ---- what the tests give on any words: 0, or one of these
+-- a number of a list without 0 is not 0
+pub not-zero : (n : ℕ) (l : List ℕ) → among 0 l ≡ false → among n l ≡ true → eqb n 0 ≡ false
+not-zero n l h q = ne_eqb n 0 (λ e. let z : true ≡ false = sym q ∙ ap (λ m. among m l) e ∙ h in let w : ◌≡◌ {A = ℕ} 0 1 = cc in absurd (omega arith))
 
-pub return-numbered : {n : ℕ} → among n (0 ∷ return_refusals) ≡ true → (n ≡ 0 → ⊥) → of_return (NotReturned n) ≡ true
+-- no refusal of a return has the number 0
+pub return-refuses : (r : Refusal) → of_return (Err r) ≡ true → eqb (refusal_number r) 0 ≡ false
 unfolding of_return
-return-numbered {n} q h = rw (ne_eqb 0 n (λ e. h (sym e))) at (sym (among-cons n 0 return_refusals) ∙ q)
-
--- by the code that is made of the last two tests
-pub last_code : (a b : Bool) {n : ℕ} → n ≡ pick a 23 (pick b 27 0) → among n (0 ∷ return_refusals) ≡ true
-last_code true b e = rw e
-last_code false true e = rw e
-last_code false false e = rw e
-
--- ---- where the counts do not fit
-
-pub return-unfit : (t : Bool) {n : ℕ} → n ≡ pick t 20 1 → of_return (NotReturned n) ≡ true
-unfolding of_return
-return-unfit true e = rw e
-return-unfit false e = rw e
-
-pub invalidation-unfit : (t : Bool) {n : ℕ} → n ≡ pick t 20 1 → of_invalidation (NotInvalidated n) ≡ true
-unfolding of_invalidation
-invalidation-unfit true e = rw e
-invalidation-unfit false e = rw e
+return-refuses r h = not-zero (refusal_number r) return_refusals refl h

@@ -5,9 +5,8 @@
 ghost use Rattle.std.specs.Prelude.{◌≡◌, true, false, ◌&&◌, List, ◌∷◌, ℕ, ◌+◌, ◌≤◌, max};
 ghost use Rattle.words.specs.Lists.{pick};
 ghost use Rattle.words.specs.Ids.{id_of};
-ghost use Rattle.pool_types.specs.declared.ReturnOutcome.TheVariants.{NotReturned};
-ghost use Rattle.pool_types.specs.declared.InvalidateOutcome.TheVariants.{NotInvalidated};
-ghost use Rattle.pool_types.specs.Outcomes.{refused, returned_of, invalidated_of};
+ghost use Rattle.pool_types.specs.Refusals.{code_of};
+ghost use Rattle.pool_types.specs.Outcomes.{refused, done_of};
 ghost use Rattle.arguments.specs.Arguments.{whole, records};
 ghost use Rattle.expiring_cache.specs.Layout.{CacheOk, CacheKept, cache_room};
 ghost use Rattle.peers.specs.declared.PeerRecord.{PeerRecord};
@@ -23,14 +22,14 @@ ghost use Rattle.store.specs.Spares.{Spares, lent};
 ghost use Rattle.returns.specs.Returns.{return_refusal, returned_entry};
 ghost use Rattle.returns.specs.Promises.{ReturnPromise, InvalidatePromise};
 ghost use Rattle.returns.specs.Post.{Tabled, Cached, recounted, recached};
-ghost use Rattle.returns.specs.Numbers.{return_refusals, of_return, of_invalidation};
+ghost use Rattle.returns.specs.Numbers.{of_return, of_invalidation};
 
 use arguments::{are_whole, count_records, height_key};
-use entries::fields::{PoolEntry, ValidationCost};
+use entries::fields::PoolEntry;
 use entries::table::is_pooled;
 use pool::{fits, remove};
-use pool_types::{Counts, InvalidateOutcome, Mempool, MempoolConfig, ReturnOutcome, Source};
-use store::{fits_cache, lacks_room, unfit};
+use pool_types::{Counts, Mempool, MempoolConfig, Refusal, Source};
+use store::{fits_cache, lacks_room};
 use weight::fee_per_factor;
 use words::ids::Id;
 
@@ -45,7 +44,7 @@ pub struct UnconfirmedTx {
     pub fee: u64,
     pub size: u64,
     pub cost: u32,
-    pub validation_cost: ValidationCost,
+    pub validation_cost: Option<u64>,
     pub created: u64,
     pub last_checked: u64,
     pub source: Source,
@@ -55,31 +54,19 @@ pub struct UnconfirmedTx {
 #[derive(Clone, Copy)]
 pub struct Returned {
     pub mempool: Mempool,
-    pub outcome: ReturnOutcome,
+    pub outcome: Result<(), Refusal>,
 }
 
 #[derive(Clone, Copy)]
 pub struct Invalidated {
     pub mempool: Mempool,
-    pub outcome: InvalidateOutcome,
+    pub outcome: Result<(), Refusal>,
 }
 
 // ---- a return
 
-// Refusals 23 and 27, in this order.
-fn pool_code(known: bool, full: bool) -> u64
-    ensures { result ≡ pick known 23 (pick full 27 0) }
-{
-    if known {
-        return 23;
-    }
-    if full {
-        return 27;
-    }
-    0
-}
-
-// Refusals 20, 1, 3, 23, 27: the number of the first that is met, and 0 where none is.
+// Refusals 20, 1, 3, 23, 27: the first that is met. Counts that do not fit what is lent are refused as lists that are not whole.
+#[tactic(auto, unfolding(crate::specs::Returns::return_refusal, crate::specs::Numbers::of_return))]
 fn check_return(
     entries: &[u64],
     boxes: &[u64],
@@ -87,35 +74,37 @@ fn check_return(
     tx: UnconfirmedTx,
     inputs: &[u64],
     outputs: &[u64],
-) -> u64
-    requires { PoolFits entries.now boxes.now mempool.counts }
-    ensures return_refusals_value { among result (0 ∷ return_refusals) ≡ true }
-    ensures room { result ≡ 0 → Room entries.now boxes.now mempool.counts (records 4 inputs.now + records 5 outputs.now) }
-    ensures value { PoolKept entries.now boxes.now mempool.counts → result ≡ return_refusal (entries_room entries.now) (boxes_room boxes.now) mempool (tables_of entries.now boxes.now mempool.counts) tx inputs.now outputs.now }
+) -> Result<(), Refusal>
+    ensures refusal_value { of_return result ≡ true }
+    ensures room { code_of result ≡ 0 → Room entries.now boxes.now mempool.counts (records 4 inputs.now + records 5 outputs.now) }
+    ensures value { PoolFits entries.now boxes.now mempool.counts → PoolKept entries.now boxes.now mempool.counts
+        → code_of result ≡ return_refusal (entries_room entries.now) (boxes_room boxes.now) mempool (tables_of entries.now boxes.now mempool.counts) tx inputs.now outputs.now }
+    ensures unfit { fits_test entries.now boxes.now mempool.counts ≡ false → code_of result ≡ pick mempool.pass.open 20 1 }
 {
     if mempool.pass.open {
-        return 20;
-    }
-    if !are_whole(inputs, 4, outputs, 5) {
-        return 1;
-    }
-    if MAX_TX_SIZE < tx.size {
-        return 3;
+        return Err(Refusal::PassOpen);
     }
     let counts = mempool.counts;
-    let known = is_pooled(entries, counts.pooled, tx.id);
-    let full = lacks_room(entries, boxes, counts, inputs, 4, outputs, 5);
-    pool_code(known, full)
+    if !fits(entries, boxes, counts) {
+        return Err(Refusal::Lists);
+    }
+    if !are_whole(inputs, 4, outputs, 5) {
+        return Err(Refusal::Lists);
+    }
+    if MAX_TX_SIZE < tx.size {
+        return Err(Refusal::Size);
+    }
+    if is_pooled(entries, counts.pooled, tx.id) {
+        return Err(Refusal::AlreadyPooled);
+    }
+    if lacks_room(entries, boxes, counts, inputs, 4, outputs, 5) {
+        return Err(Refusal::NoRoom);
+    }
+    Ok(())
 }
 
-// What it costs: as given, not raised to its size.
-fn cost_of(tx: UnconfirmedTx) -> u64
-    ensures { result ≡ tx.cost }
-{
-    tx.cost as u64
-}
-
-// Its entry: cost and times as they are given, the weight its base.
+// Its entry: cost and times as they are given, the cost not raised to its size, and the weight its base.
+#[tactic(auto, unfolding(entries::specs::Layout::entry_of, crate::specs::Returns::returned_entry))]
 fn returned_entry(
     config: MempoolConfig,
     tx: UnconfirmedTx,
@@ -124,18 +113,15 @@ fn returned_entry(
 ) -> PoolEntry
     ensures { entry_of result ≡ returned_entry config tx inputs.now outputs.now }
 {
-    let id = tx.id;
-    let measured = tx.validation_cost;
-    let cost = cost_of(tx);
-    let strategy = config.fee_strategy;
-    let base = fee_per_factor(tx.fee, tx.size, cost, strategy);
+    let cost = u64::from(tx.cost);
+    let base = fee_per_factor(tx.fee, tx.size, cost, config.fee_strategy);
     PoolEntry {
-        id,
+        id: tx.id,
         weight: base,
         base,
         size: tx.size,
         cost,
-        validation_cost: measured,
+        validation_cost: tx.validation_cost,
         created: tx.created,
         last_checked: tx.last_checked,
         height_key: height_key(outputs, 5, 4),
@@ -161,16 +147,9 @@ fn enter(
     Mempool { counts, ..mempool }
 }
 
-// A refusal, and the state as it was.
-fn not_returned(mempool: Mempool, code: u64) -> Returned
-    ensures { result ≡ record { mempool = mempool; outcome = NotReturned code } }
-{
-    let outcome = ReturnOutcome::NotReturned(code);
-    Returned { mempool, outcome }
-}
-
 // Gives a transaction back to the pool, without a verdict. On words and counts that no start and calls left it is safe, and answers with a
 // number of this call.
+#[tactic(auto, unfolding(pool_types::specs::Outcomes::done_of))]
 pub fn return_to_pool(
     entries: &mut [u64],
     boxes: &mut [u64],
@@ -179,27 +158,23 @@ pub fn return_to_pool(
     inputs: &[u64],
     outputs: &[u64],
 ) -> Returned
-    ensures return_promise { ReturnPromise entries.old boxes.old mempool tx inputs.now outputs.now entries.new boxes.new result.mempool (returned_of result.outcome) }
+    ensures return_promise { ReturnPromise entries.old boxes.old mempool tx inputs.now outputs.now entries.new boxes.new result.mempool (done_of result.outcome) }
     ensures outcome_value { of_return result.outcome ≡ true }
-    ensures by_index { (k : List ℕ) (ys : List PeerRecord) (a : List ℕ) → Spares (returned_of result.outcome)
+    ensures by_index { (k : List ℕ) (ys : List PeerRecord) (a : List ℕ) → Spares (done_of result.outcome)
         (lent entries.old boxes.old k ys a mempool)
         (lent entries.new boxes.new k ys a result.mempool) }
-    ensures outcome_value_2 { fits_test entries.old boxes.old mempool.counts ≡ false → returned_of result.outcome ≡ refused (pick mempool.pass.open 20 1) 0 }
+    ensures outcome_value_2 { fits_test entries.old boxes.old mempool.counts ≡ false → done_of result.outcome ≡ refused (pick mempool.pass.open 20 1) 0 }
 {
-    let counts = mempool.counts;
-    if !fits(entries, boxes, counts) {
-        return not_returned(mempool, unfit(mempool.pass.open));
+    if let Err(refusal) = check_return(entries, boxes, mempool, tx, inputs, outputs) {
+        return Returned {
+            mempool,
+            outcome: Err(refusal),
+        };
     }
-    let code = check_return(entries, boxes, mempool, tx, inputs, outputs);
-    if code != 0 {
-        return not_returned(mempool, code);
-    }
-    let config = mempool.config;
-    let e = returned_entry(config, tx, inputs, outputs);
-    let after = enter(entries, boxes, mempool, e, inputs, outputs);
+    let e = returned_entry(mempool.config, tx, inputs, outputs);
     Returned {
-        mempool: after,
-        outcome: ReturnOutcome::Returned,
+        mempool: enter(entries, boxes, mempool, e, inputs, outputs),
+        outcome: Ok(()),
     }
 }
 
@@ -233,15 +208,8 @@ pub fn remember(cache: &mut [u64], mempool: Mempool, time: u64, id: Id) -> Mempo
     Mempool { cached, ..mempool }
 }
 
-// A refusal, and the state as it was.
-fn not_invalidated(mempool: Mempool, code: u64) -> Invalidated
-    ensures { result ≡ record { mempool = mempool; outcome = NotInvalidated code } }
-{
-    let outcome = InvalidateOutcome::NotInvalidated(code);
-    Invalidated { mempool, outcome }
-}
-
 // Takes a transaction out of the pool, where it is there, and remembers its id as invalid. Safe as `return_to_pool` is.
+#[tactic(auto, unfolding(crate::specs::Numbers::of_invalidation, pool_types::specs::Outcomes::done_of))]
 pub fn invalidate(
     entries: &mut [u64],
     boxes: &mut [u64],
@@ -250,23 +218,28 @@ pub fn invalidate(
     time: u64,
     id: Id,
 ) -> Invalidated
-    ensures invalidate_promise { InvalidatePromise entries.old boxes.old cache.old mempool time (id_of id) entries.new boxes.new cache.new result.mempool (invalidated_of result.outcome) }
+    ensures invalidate_promise { InvalidatePromise entries.old boxes.old cache.old mempool time (id_of id) entries.new boxes.new cache.new result.mempool (done_of result.outcome) }
     ensures outcome_value { of_invalidation result.outcome ≡ true }
-    ensures spares { (ys : List PeerRecord) (a : List ℕ) → Spares (invalidated_of result.outcome)
+    ensures spares { (ys : List PeerRecord) (a : List ℕ) → Spares (done_of result.outcome)
         (lent entries.old boxes.old cache.old ys a mempool)
         (lent entries.new boxes.new cache.new ys a result.mempool) }
-    ensures outcome_value_2 { cache_fits entries.old boxes.old cache.old mempool ≡ false → invalidated_of result.outcome ≡ refused (pick mempool.pass.open 20 1) 0 }
+    ensures outcome_value_2 { cache_fits entries.old boxes.old cache.old mempool ≡ false → done_of result.outcome ≡ refused (pick mempool.pass.open 20 1) 0 }
 {
-    if !fits_cache(entries, boxes, cache, mempool) {
-        return not_invalidated(mempool, unfit(mempool.pass.open));
-    }
     if mempool.pass.open {
-        return not_invalidated(mempool, 20);
+        return Invalidated {
+            mempool,
+            outcome: Err(Refusal::PassOpen),
+        };
+    }
+    if !fits_cache(entries, boxes, cache, mempool) {
+        return Invalidated {
+            mempool,
+            outcome: Err(Refusal::Lists),
+        };
     }
     let without = take_out(entries, boxes, mempool, id);
-    let after = remember(cache, without, time, id);
     Invalidated {
-        mempool: after,
-        outcome: InvalidateOutcome::Invalidated,
+        mempool: remember(cache, without, time, id),
+        outcome: Ok(()),
     }
 }

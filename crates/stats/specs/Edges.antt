@@ -1,8 +1,8 @@
 -- The edges of fee and wait that document 01 names, and those of its words "more than" and "stop at", by computation.
+use Rattle.std.specs.Prelude.{None, Some}
 use Rattle.std.specs.Prelude.{ℕ, ◌≡◌, refl, [], ◌∷◌, set, replicate}
 use Rattle.words.specs.Sums.{cap}
 use Rattle.stats.specs.declared.FeeStats.{FeeStats}
-use Rattle.stats.specs.declared.FeeForWait.TheVariants.{Fee, NoBin}
 use Rattle.stats.specs.Stats.{fresh, counted, added, binned, confirmed, first_fee, fee_in, fee_for_wait, wait_for}
 
 -- "Wait 3,599,999 ms: bin 59; 3,600,000: none, yet counted."
@@ -55,6 +55,6 @@ abbrev one : ℕ → FeeStats
 one m = record { counts = set (replicate 60 0) m 2; totals = set (replicate 60 0) m 3001; window_start = 0; taken = 2; snap_time = 0; snap_taken = 0 }
 
 -- bin 3 is reached from a wait of 3 minutes on, bin 59 by any longer wait; floor(3,001/2) × 300 is divided by 1,024
-pub fees : (fee_for_wait (one 3) 2 300 ≡ NoBin) × (fee_for_wait (one 3) 3 300 ≡ Fee 439) × (fee_for_wait (one 59) 58 300 ≡ NoBin) × (fee_for_wait (one 59) 4000000000 300 ≡ Fee 439)
+pub fees : (fee_for_wait (one 3) 2 300 ≡ None) × (fee_for_wait (one 3) 3 300 ≡ Some 439) × (fee_for_wait (one 59) 58 300 ≡ None) × (fee_for_wait (one 59) 4000000000 300 ≡ Some 439)
 unfolding fee_in first_fee
 fees = (refl, refl, refl, refl)

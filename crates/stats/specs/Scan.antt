@@ -1,15 +1,12 @@
--- The scan for the first nonempty bin: what it passes over is empty, so that the bins behind it give the answer of all.
-use Prim.Native.Nat.{ℕ, zero, suc, ◌+◌, ◌-◌, ◌≤◌, ◌<◌, min}
-use Rattle.std.specs.Prelude.{◌≡◌, refl, List, get_or}
-use Rattle.std.proofs.Math.Path.{ap}
-use Rattle.std.proofs.Common.{◌∙◌}
-use Rattle.std.proofs.Math.Numerals.{add-one}
+-- The scan for the first nonempty bin: what it passes over is empty, and behind that it is `find` over the bins' numbers.
+use Rattle.std.specs.Prelude.{Option, None, Some, ℕ, zero, suc, ◌+◌, ◌-◌, ◌*◌, ◌/◌, ◌%◌, ◌≤◌, ◌<◌, ◌≡◌, ◌==◌, Bool, true, false, cond, not, min, List, slice_index, find}
+use Rattle.std.specs.List.{range_with_len}
+use Rattle.std.specs.Option.{MatchOption, unwrap_or}
+use Rattle.std.proofs.Common.{refl, sym, ap, ◌∙◌, add-one, arith}
 use Rattle.std.proofs.Math.Decide.{ℕ_discrete}
-use native.Mathlib.Omega.{arith}
-use Rattle.std.specs.Int.Bits.{bit_or, bit_and, or_add_and}
+use Rattle.std.specs.Int.Bits.{bit_or, or_add_and}
 use Rattle.std.proofs.lemmas.Nat.{and_le_l, and_le_r}
-use borrow.Author.Tests.{ne_eqb}
-use Rattle.stats.specs.declared.FeeForWait.TheVariants.{Fee, NoBin}
+use Rattle.words.specs.Lists.{pick}
 use Rattle.stats.specs.Stats.{bin_fee, first_fee, fee_in}
 
 -- four counts are 0
@@ -29,51 +26,61 @@ none_of_four a b c d e =
 -- the first k counts are 0, and none of them is behind the last
 pub record Skipped (counts : List ℕ) (last k : ℕ) : Type 0 where
   pub within : k ≤ last + 1
-  pub empty : (i : ℕ) → i < k → get_or counts i 0 ≡ 0
+  pub empty : (i : ℕ) → i < k → slice_index counts i ≡ 0
 
-pub skipped-none : (counts : List ℕ) (last : ℕ) → Skipped counts last 0
-skipped-none counts last = record { within = omega arith; empty = λ i h. absurd (omega arith) }
+-- four bins are empty
+abbrev pub NoneIn : List ℕ → ℕ → Type 0
+NoneIn counts k = AllNone (slice_index counts (k * 4)) (slice_index counts (k * 4 + 1)) (slice_index counts (k * 4 + 2)) (slice_index counts (k * 4 + 3))
 
-pub skipped-one : (counts : List ℕ) (last k j : ℕ) → j ≡ k + 1 → k ≤ last → get_or counts k 0 ≡ 0 → Skipped counts last k → Skipped counts last j
-skipped-one counts last k j q h e s = record { within = omega arith; empty = λ i g. go i g (ℕ_discrete i k) }
-  where
-    go : (i : ℕ) → i < j → Dec (i ≡ k) → get_or counts i 0 ≡ 0
-    go i g (yes z) = rw z e
-    go i g (no z) = s.empty i (omega arith)
+-- of n fours those before one are empty, or all are
+module _ (counts : List ℕ) (last n : ℕ) (h : n ≡ (last + 1) / 4) where
+  fours : (m : ℕ) → m ≤ n → ((k : ℕ) → 0 ≤ k → k < m → NoneIn counts k) → Skipped counts last (m * 4)
+  fours m q e = record { within = omega arith; empty = λ i g. go i (e (i / 4) (omega arith) (omega arith)) (ℕ_discrete (i % 4) 0) (ℕ_discrete (i % 4) 1) (ℕ_discrete (i % 4) 2) }
+    where
+      go : (i : ℕ) → NoneIn counts (i / 4) → Dec (i % 4 ≡ 0) → Dec (i % 4 ≡ 1) → Dec (i % 4 ≡ 2) → slice_index counts i ≡ 0
+      go i f (yes a) b c = let z : i ≡ i / 4 * 4 = omega arith in rw z f.0
+      go i f (no a) (yes b) c = let z : i ≡ i / 4 * 4 + 1 = omega arith in rw z f.1
+      go i f (no a) (no b) (yes c) = let z : i ≡ i / 4 * 4 + 2 = omega arith in rw z f.2
+      go i f (no a) (no b) (no c) = let z : i ≡ i / 4 * 4 + 3 = omega arith in rw z f.3
 
-pub skipped-four : (counts : List ℕ) (last k : ℕ) → k + 3 ≤ last → AllNone (get_or counts k 0) (get_or counts (k + 1) 0) (get_or counts (k + 2) 0) (get_or counts (k + 3) 0)
-    → Skipped counts last k → Skipped counts last (k + 4)
-skipped-four counts last k h e s =
-    skipped-one counts last (k + 3) (k + 4) (omega arith) h e.3
-    (skipped-one counts last (k + 2) (k + 3) (omega arith) (omega arith) e.2
-    (skipped-one counts last (k + 1) (k + 2) (omega arith) (omega arith) e.1
-    (skipped-one counts last k (k + 1) (omega arith) (omega arith) e.0 s)))
+  pub passed : (r : Option ℕ) → MatchOption r ((k : ℕ) → 0 ≤ k → k < n → NoneIn counts k) (λ i. (0 ≤ i) × (i < n) × Unit {0} × ((k : ℕ) → 0 ≤ k → k < i → NoneIn counts k))
+      → Skipped counts last (unwrap_or r n * 4)
+  passed None f = fours n (omega arith) f
+  passed (Some i) f = fours i (omega (arith, f.1)) f.3
 
--- the first bin that is left: it is empty, and the next ones are asked, or it gives its fee
-module _ (counts totals : List ℕ) (size last : ℕ) where
-  module _ (k : ℕ) (h : k ≤ last) where
-    more : last + 1 - k ≡ suc (last + 1 - (k + 1))
-    more = omega arith
+-- bin k is not empty
+abbrev pub full : List ℕ → ℕ → Bool
+full counts k = not (slice_index counts k == 0)
 
-    pub bin-empty : get_or counts k 0 ≡ 0 → first_fee counts totals size k (last + 1 - k) ≡ first_fee counts totals size (k + 1) (last + 1 - (k + 1))
-    unfolding first_fee
-    bin-empty e = rw (more, e, add-one k)
+module _ (counts totals : List ℕ) (size : ℕ) where
+  -- the fee of the bin that was found
+  abbrev pub fee_at : Option ℕ → Option ℕ
+  fee_at None = None
+  fee_at (Some k) = Some (bin_fee (slice_index totals k) (slice_index counts k) size)
 
-    pub bin_full : (get_or counts k 0 ≡ 0 → ⊥) → first_fee counts totals size k (last + 1 - k) ≡ Fee (bin_fee (get_or totals k 0) (get_or counts k 0) size)
-    unfolding first_fee
-    bin_full n = rw (more, ne_eqb _ 0 n)
-
-  from_start : (k : ℕ) → Skipped counts last k → first_fee counts totals size 0 (last + 1 - 0) ≡ first_fee counts totals size k (last + 1 - k)
-  from_start zero s = refl
-  from_start (suc k) s =
-      from_start k (record { within = omega (arith, s.within); empty = λ i g. s.empty i (omega arith) })
-      ∙ bin-empty k (omega (arith, s.within)) (s.empty k (omega arith))
-      ∙ rw (add-one k)
-
-  pub scan_begins : (minutes k : ℕ) → last ≡ min minutes 59 → Skipped counts last k → fee_in counts totals minutes size ≡ first_fee counts totals size k (last + 1 - k)
-  unfolding fee_in
-  scan_begins minutes k e s = let n : suc (min minutes 59) ≡ last + 1 - 0 = omega arith in ap (first_fee counts totals size 0) n ∙ from_start k s
-
-  pub scan-ends : (k : ℕ) → last < k → first_fee counts totals size k (last + 1 - k) ≡ NoBin
+  pub scanned : (k n : ℕ) → fee_at (find (full counts) (range_with_len k n)) ≡ first_fee counts totals size k n
   unfolding first_fee
-  scan-ends k h = let n : last + 1 - k ≡ 0 = omega arith in rw n
+  scanned k zero = refl
+  scanned k (suc n) = go (slice_index counts k == 0) (scanned (k + 1) n ∙ rw (add-one k))
+    where
+      go : (t : Bool) → fee_at (find (full counts) (range_with_len (k + 1) n)) ≡ first_fee counts totals size (suc k) n
+          → fee_at (cond (not t) (Some k) (find (full counts) (range_with_len (k + 1) n))) ≡ pick t (first_fee counts totals size (suc k) n) (fee_at (Some k))
+      go true e = e
+      go false e = refl
+
+  -- what is skipped is empty
+  skips : (last k : ℕ) → Skipped counts last k → first_fee counts totals size k (last + 1 - k) ≡ first_fee counts totals size 0 (last + 1)
+  unfolding first_fee
+  skips last zero s = let z : last + 1 - 0 ≡ last + 1 = omega arith in rw z
+  skips last (suc k) s =
+      let z : last + 1 - k ≡ suc (last + 1 - suc k) = omega (arith, s.within) in
+      let e : first_fee counts totals size k (last + 1 - k) ≡ first_fee counts totals size (suc k) (last + 1 - suc k) = rw (z, s.empty k (omega arith)) in
+      sym e ∙ skips last k (record { within = omega (arith, s.within); empty = λ i g. s.empty i (omega arith) })
+
+-- the fee of a wait, which the last bin that it reaches tells
+module _ (counts totals : List ℕ) (size minutes last k : ℕ) (h : last ≡ min minutes 59) (s : Skipped counts last k) where
+  pub fee_found : (r : Option ℕ) → r ≡ find (full counts) (range_with_len k (last + 1 - k)) → fee_at counts totals size r ≡ fee_in counts totals minutes size
+  unfolding fee_in
+  fee_found r e =
+      let n : last + 1 ≡ suc (min minutes 59) = omega arith in
+      rw e (scanned counts totals size k (last + 1 - k)) ∙ skips counts totals size last k s ∙ ap (first_fee counts totals size 0) n

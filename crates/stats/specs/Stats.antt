@@ -1,11 +1,10 @@
 -- Fee and wait: the statistics over confirmed transactions (document 01, "Fee and wait").
 -- "Counts and totals stop at 2^64−1." "a difference that would be negative is 0": `◌-◌` stops at 0.
+use Rattle.std.specs.Prelude.{None, Option, Some}
 use Rattle.std.specs.Prelude.{ℕ, zero, suc, ◌+◌, ◌-◌, ◌*◌, ◌/◌, min, Bool, ◌&&◌, not, List, get_or, set, replicate, eqb, ltb}
 use Rattle.words.specs.Lists.{pick}
 use Rattle.words.specs.Sums.{capped, quotient_of}
 use Rattle.stats.specs.declared.FeeStats.{FeeStats}
-use Rattle.stats.specs.declared.FeeForWait.{FeeForWait}
-use Rattle.stats.specs.declared.FeeForWait.TheVariants.{Fee, NoBin}
 
 -- statistics at a start: nothing counted, window and snapshot at the time given
 unfoldable pub fresh : ℕ → FeeStats
@@ -65,16 +64,16 @@ abbrev pub bin_fee : ℕ → ℕ → ℕ → ℕ
 bin_fee total n size = quotient_of (total / n * size) 1024
 
 -- "first nonempty bin": of the n bins from bin k on, by their counts and their totals
-unfoldable pub first_fee : List ℕ → List ℕ → ℕ → ℕ → ℕ → FeeForWait
-first_fee counts totals size k zero = NoBin
+unfoldable pub first_fee : List ℕ → List ℕ → ℕ → ℕ → ℕ → Option ℕ
+first_fee counts totals size k zero = None
 first_fee counts totals size k (suc n) =
-    pick (eqb (get_or counts k 0) 0) (first_fee counts totals size (suc k) n) (Fee (bin_fee (get_or totals k 0) (get_or counts k 0) size))
+    pick (eqb (get_or counts k 0) 0) (first_fee counts totals size (suc k) n) (Some (bin_fee (get_or totals k 0) (get_or counts k 0) size))
 
 -- "first nonempty bin of 0..min(wait, 59)", both ends included (minutes: the wait)
-unfoldable pub fee_in : List ℕ → List ℕ → ℕ → ℕ → FeeForWait
+unfoldable pub fee_in : List ℕ → List ℕ → ℕ → ℕ → Option ℕ
 fee_in counts totals minutes size = first_fee counts totals size 0 (suc (min minutes 59))
 
-abbrev pub fee_for_wait : FeeStats → ℕ → ℕ → FeeForWait
+abbrev pub fee_for_wait : FeeStats → ℕ → ℕ → Option ℕ
 fee_for_wait s minutes size = fee_in s.counts s.totals minutes size
 
 -- "floor(min(now − `window_start`, 60,000) × position/taken), 0 for `taken` 0": the cap belongs to the quotient

@@ -10,10 +10,5 @@ const MINUTE_MS: u64 = 60000;
 pub fn minute_bin(wait: u64) -> usize
     ensures { result ≡ min (wait / 60000) 60 }
 {
-    let minute = (wait / MINUTE_MS) as usize;
-    if minute < HISTOGRAM_BINS {
-        minute
-    } else {
-        HISTOGRAM_BINS
-    }
+    (wait / MINUTE_MS).min(HISTOGRAM_BINS as u64) as usize
 }

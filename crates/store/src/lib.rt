@@ -4,6 +4,7 @@
 
 ghost use Rattle.std.specs.Prelude.{◌≡◌, false, ◌+◌, ◌<◌};
 ghost use Rattle.words.specs.Lists.{pick};
+ghost use Rattle.pool_types.specs.Refusals.{refusal_number};
 ghost use Rattle.arguments.specs.Arguments.{records};
 ghost use Rattle.entries.specs.Layout.{entries_room};
 ghost use Rattle.boxes.specs.Layout.{boxes_room};
@@ -14,7 +15,7 @@ ghost use Rattle.store.specs.Fits.{cache_fits, all_fit};
 use arguments::count_records;
 use expiring_cache::cache_room;
 use pool::{fits, room_for};
-use pool_types::{Counts, Mempool};
+use pool_types::{Counts, Mempool, Refusal};
 
 // How many peers can have a record.
 const PEER_RECORDS: usize = 256;
@@ -76,11 +77,12 @@ pub fn lacks_room(
 }
 
 // What is answered where they do not fit: an open pass is named first here too.
-pub fn unfit(passing: bool) -> u64
-    ensures { result ≡ pick passing 20 1 }
+pub fn unfit(passing: bool) -> Refusal
+    ensures { refusal_number result ≡ pick passing 20 1 }
 {
     if passing {
-        return 20;
+        Refusal::PassOpen
+    } else {
+        Refusal::Lists
     }
-    1
 }

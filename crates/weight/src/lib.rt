@@ -5,7 +5,7 @@ ghost use Rattle.std.specs.Prelude.{◌≡◌};
 ghost use Rattle.weight.specs.Weight.{factor_of, fee_per_factor};
 
 use pool_types::FeeStrategy;
-use words::wide;
+use words::wide::Wide;
 
 // What stands for a cost of 0, by which nothing can be divided.
 const FAKE_COST: u64 = 1000;
@@ -23,5 +23,5 @@ fn fee_factor(size: u64, cost: u64, strategy: FeeStrategy) -> u64
 pub fn fee_per_factor(fee: u64, size: u64, cost: u64, strategy: FeeStrategy) -> u64
     ensures { result ≡ fee_per_factor strategy fee size cost }
 {
-    wide::quotient(wide::product(fee, 1024), fee_factor(size, cost, strategy))
+    Wide::product(fee, 1024).quotient(fee_factor(size, cost, strategy))
 }

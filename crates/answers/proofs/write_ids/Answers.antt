@@ -16,7 +16,7 @@ loop-i-preserved c =
     let l = c.loop-i in
     -- the id read is the one at place i
     let read : id_of c.id_at.result ≡ id_at a.list.now (l.i * 4) = omega (arith, c.id_at.ensures) in
-    (omega arith, rw (← add_assoc a.at l.i 1) (writing_more (rw (drop_of (ids 4) _ _ _ c.loop-i-test.true, ← read) at l.invariant.1) c.write_id.ensures))
+    rw (← add_assoc a.at l.i 1) (writing_more (rw (drop_of (ids 4) _ _ _ c.loop-i-test.true, ← read) at l.invariant) c.write_id.ensures)
 
 pub returns : goal.returns
-returns c = writing-all (rw (drop_past (ids 4) _ _ _ c.loop-i-test.false) at c.loop-i.invariant.1)
+returns c = writing-all (rw (drop_past (ids 4) _ _ _ c.loop-i-test.false) at c.loop-i.invariant)

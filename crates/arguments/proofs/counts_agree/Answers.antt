@@ -1,10 +1,7 @@
 -- `counts_agree` meets its contract: a sum that stops is a number of inputs exactly if the exact sum is. Assumes nothing.
-use Rattle.arguments.specs.Laws.{total-next, total-ends}
-use native.Mathlib.Omega.{arith}
+use Rattle.std.proofs.Common.{arith}
+use Rattle.arguments.specs.Laws.{totalled, total-agrees}
 use Rattle.arguments.proofs.counts_agree.Goals as goal
 
-pub loop-i-preserved : goal.loop-i-preserved
-loop-i-preserved c = (omega arith, total-next c.args.transactions.now c.loop-i.i c.loop-i.total _ c.saturating_add-total.ensures c.loop-i.invariant.1 c.loop-i-test.true, omega arith)
-
 pub returns : goal.returns
-returns c = total-ends _ _ _ _ c.loop-i.invariant.1 c.loop-i-test.false (omega arith) (omega arith)
+returns c = rw (c.total_inputs.ensures, totalled c.args.transactions.now, c.count_records.ensures) (total-agrees c.args.transactions.now c.args.inputs.now (omega arith))

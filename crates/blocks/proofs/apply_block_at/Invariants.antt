@@ -14,4 +14,4 @@ invariant-loop-run l =
     }
 
 abbrev pub decreases-loop-run : goal.decreases-loop-run
-decreases-loop-run l = turns l.transactions l.run.hit l.run.at
+decreases-loop-run l = turns l.transactions l.run.seen l.run.at

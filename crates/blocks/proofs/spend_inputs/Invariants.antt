@@ -9,6 +9,3 @@ use Rattle.blocks.proofs.spend_inputs.Given as goal
 abbrev pub invariant-loop-j : goal.invariant-loop-j
 invariant-loop-j l = (length l.entries ≡ length l.initial.entries) × (length l.boxes ≡ length l.initial.boxes) × (length l.answer ≡ length l.initial.answer)
     × Turned (spent (id_of l.id) (inputs_at l.inputs l.j (l.to - l.j))) (spent (id_of l.id) (inputs_at l.inputs l.from (l.to - l.from))) l.initial.entries l.initial.boxes l.initial.answer l.initial.left l.entries l.boxes l.answer l.left
-
-abbrev pub decreases-loop-j : goal.decreases-loop-j
-decreases-loop-j l = l.to - l.j

@@ -1,18 +1,10 @@
--- `cleanup::check_answer` meets its contract: each return is the chain of refusals, answered by the tests before it and its own. Assumes nothing.
+-- `cleanup::check_answer` meets its contract: the records are looked at only where the counts fit. Assumes nothing.
 use mathlib.Core.Path.{sym, ◌∙◌}
-use Rattle.words.specs.Lists.{yes, no}
-use Rattle.cleanup.specs.Post.{answer_code}
-use Rattle.cleanup.specs.Laws.{other-number, same_number}
+use Rattle.store.specs.Fits.{cache-fits}
 use Rattle.cleanup.proofs.check_answer.Goals as goal
 
-pub returns-then-none_out-clause-value : goal.returns-then-none_out-clause-value
-unfolding answer_code
-returns-then-none_out-clause-value c = λ k. sym (yes _ _ _ (sym c.none_out.ensures ∙ c.if-none_out.true))
+pub count_inputs-requires : goal.count_inputs-requires
+count_inputs-requires c = (cache-fits _ _ _ _ (sym c.fits_cache.ensures ∙ c.if-not-fits_cache.false)).0.pool.boxes
 
-pub returns-then-flags-count_inputs-clause-value : goal.returns-then-flags-count_inputs-clause-value
-unfolding answer_code
-returns-then-flags-count_inputs-clause-value c = λ k. sym (no _ _ _ (sym c.none_out.ensures ∙ c.if-none_out.false) ∙ yes _ _ _ (other-number _ _ (c.count_inputs.ensures k) c.if-flags-count_inputs.true))
-
-pub returns-clause-value : goal.returns-clause-value
-unfolding answer_code
-returns-clause-value c = λ k. sym (no _ _ _ (sym c.none_out.ensures ∙ c.if-none_out.false) ∙ no _ _ _ (same_number _ _ (c.count_inputs.ensures k) c.if-flags-count_inputs.false))
+pub returns-clause-fits : goal.returns-clause-fits
+returns-clause-fits c = λ z. cache-fits _ _ _ _ (sym c.fits_cache.ensures ∙ c.if-not-fits_cache.false)

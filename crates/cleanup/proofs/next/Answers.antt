@@ -3,60 +3,40 @@ use native.Mathlib.Omega.{arith}
 use mathlib.Core.Path.{refl}
 use Rattle.pool_types.specs.Outcomes.{next_of}
 use Rattle.entries.specs.Layout.{ok-room, ok-fewer}
-use Rattle.store.specs.Spares.{spares-same}
-use Rattle.cleanup.specs.Numbers.{of_next}
 use Rattle.cleanup.specs.Laws.{only-state, spares-offered, spares-closed, next-closed, next-unfit, next-again}
 use Rattle.cleanup.proofs.PassLaws.{next-found, next-ended}
 use Rattle.cleanup.proofs.next.Goals as goal
 
-pub returns-then-not-pass : goal.returns-then-not-pass
-unfolding of_next next_of
-returns-then-not-pass c = rw c.not_offered.ensures (record {
-  next_promise = next-closed _ c.if-not-pass.true _;
-  outcome_value = refl;
-  by_index = λ b k ys a. spares-same _ _;
-  outcome_value_2 = λ _. rw c.if-not-pass.true;
-  mempool_value = refl;
-})
+pub returns-then-not-pass-clause-next_promise : goal.returns-then-not-pass-clause-next_promise
+returns-then-not-pass-clause-next_promise c = next-closed _ c.if-not-pass.true _
 
-pub returns-then-entries_room-n : goal.returns-then-entries_room-n
-unfolding of_next next_of
-returns-then-entries_room-n c = rw c.not_offered-then-entries_room-n.ensures (record {
-  next_promise = λ b k ys f. next-unfit _ _ b k ys (omega arith) f;
-  outcome_value = refl;
-  by_index = λ b k ys a. spares-same _ _;
-  outcome_value_2 = λ _. rw c.if-not-pass.false;
-  mempool_value = refl;
-})
+pub returns-then-entries_room-n-clause-next_promise : goal.returns-then-entries_room-n-clause-next_promise
+returns-then-entries_room-n-clause-next_promise c = λ b k ys f. next-unfit _ _ b k ys (omega arith) f
 
 pub returns-then-pass-clause-next_promise : goal.returns-then-pass-clause-next_promise
-unfolding of_next next_of
+unfolding next_of
 returns-then-pass-clause-next_promise c = λ b k ys f. next-again _ c.if-not-pass.false c.if-pass.true _ b k ys f refl
-
-pub returns-then-pass-clause-outcome_value : goal.returns-then-pass-clause-outcome_value
-unfolding of_next next_of
-returns-then-pass-clause-outcome_value c = refl
 
 pub first_due-requires : goal.first_due-requires
 first_due-requires c = ok-room _ _ (omega arith)
 
 pub id_at-requires : goal.id_at-requires
-id_at-requires c = ok-fewer _ _ _ (ok-room _ c.args.mempool.counts.pooled (omega arith)) (omega (arith, c.first_due.ensures.within _ c.in-At.is))
+id_at-requires c = ok-fewer _ _ _ (ok-room _ c.args.mempool.counts.pooled (omega arith)) (omega (arith, c.first_due.ensures.within _ c.in-Some.is))
 
-pub returns-in-At-clause-next_promise : goal.returns-in-At-clause-next_promise
-returns-in-At-clause-next_promise c = next-found _ _ c.if-not-pass.false c.if-pass.false c.first_due.ensures _ _ c.in-At.is c.id_at.ensures c.offer.ensures.pass_only
+pub returns-in-Some-clause-next_promise : goal.returns-in-Some-clause-next_promise
+returns-in-Some-clause-next_promise c = next-found _ _ c.if-not-pass.false c.if-pass.false c.first_due.ensures _ _ c.in-Some.is c.id_at.ensures c.offer.ensures.pass_only
 
-pub returns-in-At-clause-by_index : goal.returns-in-At-clause-by_index
-returns-in-At-clause-by_index c = λ b k ys a. spares-offered _ _ _ c.offer.ensures.pass_only
+pub returns-in-Some-clause-by_index : goal.returns-in-Some-clause-by_index
+returns-in-Some-clause-by_index c = λ b k ys a. spares-offered _ _ _ c.offer.ensures.pass_only
 
-pub returns-in-At-clause-mempool_value : goal.returns-in-At-clause-mempool_value
-returns-in-At-clause-mempool_value c = only-state c.offer.ensures.pass_only
+pub returns-in-Some-clause-mempool_value : goal.returns-in-Some-clause-mempool_value
+returns-in-Some-clause-mempool_value c = only-state c.offer.ensures.pass_only
 
-pub returns-in-Nowhere-clause-next_promise : goal.returns-in-Nowhere-clause-next_promise
-returns-in-Nowhere-clause-next_promise c = next-ended _ _ c.if-not-pass.false c.if-pass.false c.first_due.ensures c.in-Nowhere.is c.end_pass.ensures.pass_only
+pub returns-in-None-clause-next_promise : goal.returns-in-None-clause-next_promise
+returns-in-None-clause-next_promise c = next-ended _ _ c.if-not-pass.false c.if-pass.false c.first_due.ensures c.in-None.is c.end_pass.ensures.pass_only
 
-pub returns-in-Nowhere-clause-by_index : goal.returns-in-Nowhere-clause-by_index
-returns-in-Nowhere-clause-by_index c = λ b k ys a. spares-closed _ _ c.end_pass.ensures.pass_only
+pub returns-in-None-clause-by_index : goal.returns-in-None-clause-by_index
+returns-in-None-clause-by_index c = λ b k ys a. spares-closed _ _ c.end_pass.ensures.pass_only
 
-pub returns-in-Nowhere-clause-mempool_value : goal.returns-in-Nowhere-clause-mempool_value
-returns-in-Nowhere-clause-mempool_value c = only-state c.end_pass.ensures.pass_only
+pub returns-in-None-clause-mempool_value : goal.returns-in-None-clause-mempool_value
+returns-in-None-clause-mempool_value c = only-state c.end_pass.ensures.pass_only

@@ -1,7 +1,8 @@
 -- `expiring_cache::prune` meets its contract: all stay where they are, or those that are held are moved to the front. Assumes nothing.
 use Rattle.expiring_cache.specs.Layout.{first_fits, ok-slots}
 use Rattle.expiring_cache.specs.Adding.{pruned-none, pruned-same, pruned-moved}
-use native.Mathlib.Omega.{arith}
+use Rattle.expiring_cache.specs.Gathering.{fresh-all}
+use Rattle.std.proofs.Common.{arith, sym, ◌∙◌}
 use Rattle.expiring_cache.proofs.prune.Goals as goal
 
 pub returns-then-n-eq0-clause-pruned : goal.returns-then-n-eq0-clause-pruned
@@ -14,7 +15,7 @@ pub all_fresh-requires : goal.all_fresh-requires
 all_fresh-requires c = rw c.first_slot-first.ensures (first_fits c.args.cache.now c.args.n (ok-slots _ _ c.requires))
 
 pub returns-then-all_fresh-clause-pruned : goal.returns-then-all_fresh-clause-pruned
-returns-then-all_fresh-clause-pruned c = λ k. pruned-same _ _ _ _ _ c.requires c.first_slot-first.ensures k (c.all_fresh.ensures c.if-all_fresh.true)
+returns-then-all_fresh-clause-pruned c = λ k. pruned-same _ _ _ _ _ c.requires c.first_slot-first.ensures k (fresh-all _ _ _ _ _ (sym c.all_fresh.ensures ∙ c.if-all_fresh.true))
 
 pub gather-left-requires : goal.gather-left-requires
 gather-left-requires c = rw c.first_slot-first.ensures (first_fits c.args.cache.now c.args.n (ok-slots _ _ c.requires))

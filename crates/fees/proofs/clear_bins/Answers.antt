@@ -1,10 +1,10 @@
--- `clear_bins` meets its contract. The loop's invariant: the bins passed are empty, and nothing else has changed. Assumes nothing.
-use native.Mathlib.Omega.{arith}
-use Rattle.fees.proofs.Laws.{clear_none, clear-more}
+-- `clear_bins` meets its contract: the words filled are those of the first n bins (`cleared`). Assumes nothing.
+use Prim.Native.Nat.{ℕ}
+use mathlib.Core.Path.{ap, ◌∙◌}
+use lib.Seq.{length-take-le}
+use lib.ListN.{replicate}
+use Rattle.fees.proofs.Laws.{cleared}
 use Rattle.fees.proofs.clear_bins.Goals as goal
 
-pub loop-i-init : goal.loop-i-init
-loop-i-init c = (omega arith, clear_none _)
-
-pub loop-i-preserved : goal.loop-i-preserved
-loop-i-preserved c = (omega arith, clear-more _ _ _ _ c.loop-i.invariant.1 c.put_bin.ensures)
+pub returns : goal.returns
+returns c = cleared _ _ _ c.requires (c.fill.ensures.after (λ w h. h) ∙ ap (λ (n : ℕ). replicate n 0) (length-take-le _ _ c.requires))

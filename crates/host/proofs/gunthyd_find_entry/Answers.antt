@@ -11,9 +11,9 @@ returns-then-entries_room-pooled-clause-value_2 c = λ _. rank-short _ _ _ (omeg
 pub find_entry-place-requires : goal.find_entry-place-requires
 find_entry-place-requires c = ok-room _ _ (omega arith)
 
-pub returns-in-At-clause-value_2 : goal.returns-in-At-clause-value_2
-returns-in-At-clause-value_2 c = let q = c.in-At.is in
+pub returns-in-Some-clause-value_2 : goal.returns-in-Some-clause-value_2
+returns-in-Some-clause-value_2 c = let q = c.in-Some.is in
     λ k. ap place_number (sym q) ∙ rank-found _ _ _ (omega arith) _ (c.find_entry-place.ensures.value k)
 
-pub returns-in-Nowhere-clause-value_2 : goal.returns-in-Nowhere-clause-value_2
-returns-in-Nowhere-clause-value_2 c = λ k. ap place_number (sym c.in-Nowhere.is) ∙ rank-found _ _ _ (omega arith) _ (c.find_entry-place.ensures.value k)
+pub returns-in-None-clause-value_2 : goal.returns-in-None-clause-value_2
+returns-in-None-clause-value_2 c = λ k. ap place_number (sym c.in-None.is) ∙ rank-found _ _ _ (omega arith) _ (c.find_entry-place.ensures.value k)

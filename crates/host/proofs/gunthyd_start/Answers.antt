@@ -19,8 +19,8 @@ begin-requires-clause-in_bounds_2 c = (scant-none _ _ _ _ (sym c.too_short.ensur
 pub store_stats-requires : goal.store_stats-requires
 store_stats-requires c = (scant-none _ _ _ _ (sym c.too_short.ensures ∙ c.if-too_short.false)).2
 
-pub returns-in-Ready : goal.returns-in-Ready
-returns-in-Ready c = start-ready _ _ _ _ _ _ _ _ _ _ c.too_short.ensures c.if-too_short.false c.load_config-config.ensures c.start-outcome.ensures.value _ _ _ c.in-Ready.is c.begin.ensures c.new.ensures c.store_stats.ensures (says-by c.put.ensures (done-words _ c.plain.ensures))
+pub returns-in-Ok : goal.returns-in-Ok
+returns-in-Ok c = start-ready _ _ _ _ _ _ _ _ _ _ c.too_short.ensures c.if-too_short.false c.load_config-config.ensures c.start-outcome.ensures.value _ _ _ c.in-Ok.is c.begin.ensures c.new.ensures c.store_stats.ensures (says-by c.put.ensures (done-words _ c.plain.ensures))
 
-pub returns-in-NotStarted : goal.returns-in-NotStarted
-returns-in-NotStarted c = start-refused _ _ _ _ _ _ _ _ _ _ c.too_short.ensures c.if-too_short.false c.load_config-config.ensures c.start-outcome.ensures.value _ c.in-NotStarted.is c.refuse-in-NotStarted.ensures
+pub returns-in-Err : goal.returns-in-Err
+returns-in-Err c = start-refused _ _ _ _ _ _ _ _ _ _ c.too_short.ensures c.if-too_short.false c.load_config-config.ensures c.start-outcome.ensures.value _ c.in-Err.is c.refuse-in-Err.ensures

@@ -17,7 +17,7 @@ bounds-records-at c =
 
 pub returns : goal.returns
 returns c =
-    rw (c.place-at.ensures, c.charged-next.ensures) (
+    rw (c.place-at.ensures, c.charged.ensures) (
       charged-peers c.args.records.now c.args.used c.args.peer c.args.cost c.args.found c.requires.0 c.requires.1,
       charged-rest c.args.records.now c.args.used c.args.peer c.args.cost c.args.found c.requires.0 c.requires.1,
     )

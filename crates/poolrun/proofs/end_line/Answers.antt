@@ -10,9 +10,9 @@ pub tell_line-told-requires-clause-room : goal.tell_line-told-requires-clause-ro
 tell_line-told-requires-clause-room g c = room_of c.requires.sized
 
 pub write_line-requires : goal.write_line-requires
-write_line-requires g c = newline-fits c.args.line.now c.smaller-n.result c.args.p c.args.out.now c.tell_line-told.new.out c.requires.sized.out (omega arith) c.tell_line-told.ensures
+write_line-requires g c = newline-fits c.args.line.now c.min-n.result c.args.p c.args.out.now c.tell_line-told.new.out c.requires.sized.out (omega arith) c.tell_line-told.ensures
 
 pub returns : goal.returns
 returns g c =
-    ends_is c.args.line.now c.smaller-n.result c.args.p c.args.out.now c.tell_line-told.new.out c.requires.sized.out (omega arith) c.tell_line-told.ensures
-    c.write_line.new.out c.smaller-n.ensures c.saturating_add-number.ensures c.write_line.ensures.line c.write_line.ensures.written
+    ends_is c.args.line.now c.min-n.result c.args.p c.args.out.now c.tell_line-told.new.out c.requires.sized.out (omega arith) c.tell_line-told.ensures
+    c.write_line.new.out c.min-n.ensures c.saturating_add-number.ensures c.write_line.ensures.line c.write_line.ensures.written

@@ -6,4 +6,4 @@ pub returns-then-peers-lt-PEER_WORDS : goal.returns-then-peers-lt-PEER_WORDS
 returns-then-peers-lt-PEER_WORDS c = too_few _ _ _ _ _ _ _ _ _ c.if-peers-lt-PEER_WORDS.true c.unfit.ensures
 
 pub returns : goal.returns
-returns c = in_words _ _ _ _ _ _ _ _ _ c.if-peers-lt-PEER_WORDS.false c.load_peers-held.ensures c.store_peers.ensures.1 c.store_peers.ensures.0 c.by_value-done.ensures
+returns c = in_words _ _ _ _ _ _ _ _ _ c.if-peers-lt-PEER_WORDS.false c.load_peers-records.ensures c.store_peers.ensures.1 c.store_peers.ensures.0 c.process-processed.ensures

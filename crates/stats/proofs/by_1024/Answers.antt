@@ -12,8 +12,8 @@ shifted : (w : Wide) → w.high * 18014398509481984 + w.low / 1024 ≡ wide_of w
 unfolding wide_of
 shifted w = omega arith
 
-pub returns-then-w-ge1024 : goal.returns-then-w-ge1024
-returns-then-w-ge1024 c = quotient-cap (wide_of c.args.w) 1024 (omega arith) (past_word_is c.args.w (omega arith) (omega arith))
+pub returns-then-w-ge-FEE_UNIT : goal.returns-then-w-ge-FEE_UNIT
+returns-then-w-ge-FEE_UNIT c = quotient-cap (wide_of c.args.w) 1024 (omega arith) (past_word_is c.args.w (omega arith) (omega arith))
 
 pub returns : goal.returns
 returns c =

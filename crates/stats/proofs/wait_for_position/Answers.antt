@@ -7,4 +7,4 @@ use Rattle.stats.proofs.wait_for_position.Goals as goal
 pub returns : goal.returns
 returns c =
     c.quotient.ensures
-    ∙ rw (c.product.ensures, mul_comm c.args.position _, c.elapsed-passed.ensures)
+    ∙ rw (c.product.ensures, mul_comm c.args.position _, c.elapsed.ensures)

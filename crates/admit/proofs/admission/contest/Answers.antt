@@ -6,27 +6,20 @@ use lib.ListN.{length}
 use Rattle.entries.specs.Layout.{entry_of}
 use Rattle.boxes.specs.Flat.{ids_to}
 use Rattle.pool.specs.Pool.{tables_of}
-use Rattle.admit.specs.Admission.{room_fits, room_after, still-new, sound-lost, contest-lost, contest-won}
-use Rattle.admit.specs.Spares.{spares-lost}
+use Rattle.admit.specs.Admission.{room_fits, room_after, still-new, sound_lost, contest-lost, contest-won}
 use Rattle.admit.proofs.admission.contest.Goals as goal
 
 pub is_loser-requires-clause-entries_ok : goal.is_loser-requires-clause-entries_ok
 is_loser-requires-clause-entries_ok c = (room_fits _ _ _ _ c.requires.room).entries
 
 pub returns-then-is_loser-clause-sound : goal.returns-then-is_loser-clause-sound
-unfolding entry_of
 returns-then-is_loser-clause-sound c = let f = room_fits _ _ _ _ c.requires.room in
-    let told = rw c.places-room.ensures at c.smaller-told.ensures in sound-lost _ _ _ _ f _ _ told
-
-pub returns-then-is_loser-clause-spares_words : goal.returns-then-is_loser-clause-spares_words
-unfolding entry_of
-returns-then-is_loser-clause-spares_words c = let f = room_fits _ _ _ _ c.requires.room in
-    let told = rw c.places-room.ensures at c.smaller-told.ensures in spares-lost _ _ _ _ _ _
+    let told = rw c.places-room.ensures at c.min-told.ensures in sound_lost _ _ _ _ f _ _ told
 
 pub returns-then-is_loser-clause-leaves : goal.returns-then-is_loser-clause-leaves
 unfolding entry_of
 returns-then-is_loser-clause-leaves c = let f = room_fits _ _ _ _ c.requires.room in
-    let told = rw c.places-room.ensures at c.smaller-told.ensures in λ k new.
+    let told = rw c.places-room.ensures at c.min-told.ensures in λ k new.
     let l = c.conflicts-k.ensures.listed k.boxes in
     rw (← l.rows) (contest-lost _ _ _ _ _ _ _ _ _ _ _ _ _ _ _ (record { fits = f; kept = k; tables = refl }) (sym (c.is_loser.ensures k.entries) ∙ c.if-is_loser.true) (l.count ∙ sym (ap length l.rows)) told c.write_ids.ensures)
 

@@ -1,12 +1,12 @@
 -- `admission::offer` meets its contract: 10 (`fee-refused`), or the newcomer takes a place (`fee-contested`). Assumes nothing.
 use mathlib.Core.Path.{refl}
 use Rattle.entries.specs.Layout.{entries_of}
-use Rattle.admit.specs.Admission.{room_fits, sound-declined, fee-refused, fee-contested, own-id}
+use Rattle.admit.specs.Admission.{room_fits, sound_declined, fee-refused, fee-contested, own-id}
 use Rattle.admit.proofs.admission.offer.Goals as goal
 
 pub returns-then-fee-config-clause-sound : goal.returns-then-fee-config-clause-sound
 returns-then-fee-config-clause-sound c = let p = c.requires in
-    let f = room_fits _ _ _ _ p.room in sound-declined _ _ _ _ f 10 refl
+    let f = room_fits _ _ _ _ p.room in sound_declined _ _ _ _ f _ refl
 
 pub returns-then-fee-config-clause-leaves : goal.returns-then-fee-config-clause-leaves
 returns-then-fee-config-clause-leaves c = let p = c.requires in

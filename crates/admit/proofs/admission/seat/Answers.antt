@@ -3,20 +3,14 @@
 use mathlib.Core.Path.{refl, sym, ◌∙◌}
 use Rattle.entries.specs.Layout.{entry_of}
 use Rattle.boxes.specs.Flat.{ids}
-use Rattle.admit.specs.Admission.{room_fits, sound-declined, sound-in, seat-crowded, seat-taken, settles}
-use Rattle.admit.specs.Spares.{unmoved-full}
+use Rattle.admit.specs.Admission.{room_fits, sound_declined, sound-in, seat-crowded, seat-taken, settles}
 use Rattle.admit.proofs.admission.seat.Goals as goal
 
 pub is_crowded-requires : goal.is_crowded-requires
 is_crowded-requires c = (room_fits _ _ _ _ c.requires.room).entries
 
 pub returns-then-is_crowded-clause-sound : goal.returns-then-is_crowded-clause-sound
-unfolding entry_of
-returns-then-is_crowded-clause-sound c = let f = room_fits _ _ _ _ c.requires.room in sound-declined _ _ _ _ f 30 refl
-
-pub returns-then-is_crowded-clause-unmoved : goal.returns-then-is_crowded-clause-unmoved
-unfolding entry_of
-returns-then-is_crowded-clause-unmoved c = let f = room_fits _ _ _ _ c.requires.room in unmoved-full _ _ _ _
+returns-then-is_crowded-clause-sound c = let f = room_fits _ _ _ _ c.requires.room in sound_declined _ _ _ _ f _ refl
 
 pub returns-then-is_crowded-clause-leaves : goal.returns-then-is_crowded-clause-leaves
 unfolding entry_of

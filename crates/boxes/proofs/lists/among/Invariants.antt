@@ -1,4 +1,3 @@
-use Prim.Native.Nat.{◌-◌}
 use mathlib.Core.Path.{◌≡◌}
 use lib.ListN.{drop}
 use Rattle.words.specs.Ids.{id_of}
@@ -8,6 +7,3 @@ use Rattle.boxes.proofs.lists.among.Given as goal
 
 abbrev pub invariant-loop-i : goal.invariant-loop-i
 invariant-loop-i l = among (id_of l.key) (drop l.i (ids_to l.width l.list l.to)) ≡ among (id_of l.key) (drop l.from (ids_to l.width l.list l.to))
-
-abbrev pub decreases-loop-i : goal.decreases-loop-i
-decreases-loop-i l = l.to - l.i

@@ -4,7 +4,7 @@ use Rattle.boxes.specs.Linking.{enters_none, enters-more}
 use Rattle.boxes.proofs.records.enter_slots.Goals as goal
 
 pub loop-i-init : goal.loop-i-init
-loop-i-init c = (omega arith, enters_none _ _)
+loop-i-init c = enters_none _ _
 
 pub loop-i-preserved : goal.loop-i-preserved
-loop-i-preserved c = (omega arith, enters-more _ _ _ _ _ c.loop-i.invariant.1 (omega arith) c.enter_slot.auto.s c.enter_slot.ensures)
+loop-i-preserved c = enters-more _ _ _ _ _ c.loop-i.invariant (omega arith) c.enter_slot.auto.s c.enter_slot.ensures

@@ -1,8 +1,9 @@
+use Rattle.boxes.specs.Index.{name_of}
 use Rattle.boxes.specs.Leaving.{Leaves}
 use Rattle.boxes.proofs.records.leave_all.Given as goal
 
-abbrev pub invariant-loop-v : goal.invariant-loop-v
-invariant-loop-v l = Leaves l.initial.s l.used l.n l.owner l.s l.r l.v
+abbrev pub invariant-loop-next : goal.invariant-loop-next
+invariant-loop-next l = Leaves l.initial.s l.used l.n l.owner l.s l.left (name_of l.next)
 
-abbrev pub decreases-loop-v : goal.decreases-loop-v
-decreases-loop-v l = l.v
+abbrev pub decreases-loop-next : goal.decreases-loop-next
+decreases-loop-next l = name_of l.next

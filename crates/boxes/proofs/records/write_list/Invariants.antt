@@ -1,4 +1,3 @@
-use Prim.Native.Nat.{◌-◌, ◌≤◌}
 use mathlib.Core.Path.{◌≡◌}
 use lib.ListN.{length}
 use Rattle.words.specs.Ids.{id_of}
@@ -6,7 +5,4 @@ use Rattle.boxes.specs.Writing.{Wrote}
 use Rattle.boxes.proofs.records.write_list.Given as goal
 
 abbrev pub invariant-loop-i : goal.invariant-loop-i
-invariant-loop-i l = (l.i ≤ l.n) × (length l.free ≡ length l.initial.free) × Wrote l.initial.free l.free l.at l.i (id_of l.owner) l.out l.width l.list
-
-abbrev pub decreases-loop-i : goal.decreases-loop-i
-decreases-loop-i l = l.n - l.i
+invariant-loop-i l = (length l.free ≡ length l.initial.free) × Wrote l.initial.free l.free l.at l.i (id_of l.owner) l.out l.width l.list

@@ -4,4 +4,4 @@ use Rattle.boxes.proofs.rows.column_id.Goals as goal
 
 pub returns : goal.returns
 unfolding key_at
-returns c = c.load_id.ensures
+returns c = c.get_id.ensures.number

@@ -1,9 +1,10 @@
 -- `rows::is_gone` meets its contract, by the kind. Assumes nothing.
-use Prim.Native.Nat.{ℕ}
-use mathlib.Core.Path.{ap, ◌∙◌}
-use lib.Dec.{eqb}
-use Rattle.boxes.specs.Layout.{gone-is}
+use Rattle.std.proofs.Common.{rules, ◌≡◌, ap, ◌∙◌, eqb}
+use Rattle.boxes.specs.Kinds.{kind_number}
+use Rattle.boxes.specs.Layout.{gone-of}
 use Rattle.boxes.proofs.rows.is_gone.Goals as goal
 
 pub returns : goal.returns
-returns c = ap (λ (q : ℕ). eqb q 2) c.kind_at.ensures ∙ gone-is _ _
+returns c =
+    let same : c.eq.result ≡ eqb (kind_number c.kind_at.result) 2 = search rules in
+    same ∙ ap (λ k. eqb (kind_number k) 2) c.kind_at.ensures ∙ gone-of _ _

@@ -3,4 +3,4 @@ use Rattle.console.proofs.change.alter.Goals as goal
 
 -- src/change.rt:44:1
 pub returns : goal.returns
-returns c = after-cut _ _ _ _ _ _ _ _ _ _ _ _ _ _ _ _ _ _ _ _ c.words_of-words.ensures c.smaller-n.ensures c.smaller-m.ensures c.make.ensures
+returns c = after-cut _ _ _ _ _ _ _ _ _ _ _ _ _ _ _ _ _ _ _ _ c.words_of-words.ensures c.min-n.ensures c.min-m.ensures c.make.ensures

@@ -3,11 +3,11 @@ use Rattle.console.specs.Console.{number_text}
 use Rattle.console.proofs.estimates.tell_number.Goals as goal
 
 -- src/estimates.rt:19:1
-pub returns-in-Number : goal.returns-in-Number
+pub returns-in-Ok : goal.returns-in-Ok
 unfolding number_text number_of
-returns-in-Number c = rw c.in-Number.is c.with_number.ensures
+returns-in-Ok c = rw c.in-Ok.is c.with_number.ensures
 
 -- src/estimates.rt:19:1
-pub returns-in-NoNumber : goal.returns-in-NoNumber
+pub returns-in-Err : goal.returns-in-Err
 unfolding number_text number_of
-returns-in-NoNumber c = rw c.in-NoNumber.is c.refused.ensures
+returns-in-Err c = rw c.in-Err.is c.refused.ensures

@@ -6,4 +6,4 @@ use Rattle.console.proofs.pass.on_answer.Goals as goal
 -- src/pass.rt:104:1
 pub returns : goal.returns
 unfolding altered
-returns c n p a s y = rw (← c.verdict_of.ensures) (after-pass _ _ _ _ _ _ _ _ _ _ _ _ _ _ _ _ (c.answer-answered.ensures.answer_promise (records p) y.store) c.tell_answered-len.ensures)
+returns c n p a s y = after-pass _ _ _ _ _ _ _ _ _ _ _ _ _ _ _ _ (c.answer-answered.ensures.answer_promise (records p) y.store) c.tell_answered-len.ensures

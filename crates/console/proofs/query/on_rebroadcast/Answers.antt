@@ -7,10 +7,10 @@ use Rattle.peers.specs.Flat.{records}
 use Rattle.console.proofs.query.on_rebroadcast.Goals as goal
 
 pub with_ids-requires : goal.with_ids-requires
-with_ids-requires c = let h = sent-placed _ _ _ (c.select_for_rebroadcast-sent.ensures.rebroadcast_promise [] [] c.requires.pool_fits.0 c.requires.pool_fits.1.boxes) c.in-Listed.is in (omega (arith, h, c.select_for_rebroadcast-sent.auto), omega (arith, h, c.requires.listing_len_bound))
+with_ids-requires c = let h = sent-placed _ _ _ (c.select_for_rebroadcast-sent.ensures.rebroadcast_promise [] [] c.requires.pool_fits.0 c.requires.pool_fits.1.boxes) c.in-Ok.is in (omega (arith, h, c.select_for_rebroadcast-sent.auto), omega (arith, h, c.requires.listing_len_bound))
 
-pub returns-in-Listed : goal.returns-in-Listed
-returns-in-Listed c k p = prints-as (sent-ids _ _ _ (c.select_for_rebroadcast-sent.ensures.rebroadcast_promise k (records p) c.requires.pool_fits.0 c.requires.pool_fits.1.boxes) c.in-Listed.is ∙ sent-cut _ _ _ _ _ _ c.smaller-m.ensures) c.with_ids.ensures
+pub returns-in-Ok : goal.returns-in-Ok
+returns-in-Ok c k p = prints-as (sent-ids _ _ _ (c.select_for_rebroadcast-sent.ensures.rebroadcast_promise k (records p) c.requires.pool_fits.0 c.requires.pool_fits.1.boxes) c.in-Ok.is ∙ sent-cut _ _ _ _ _ _ c.min-m.ensures) c.with_ids.ensures
 
-pub returns-in-NotListed : goal.returns-in-NotListed
-returns-in-NotListed c k p = prints-as (sent-not _ _ _ (c.select_for_rebroadcast-sent.ensures.rebroadcast_promise k (records p) c.requires.pool_fits.0 c.requires.pool_fits.1.boxes) c.in-NotListed.is ∙ sent-cut _ _ _ _ _ _ c.smaller-m.ensures) c.refused.ensures
+pub returns-in-Err : goal.returns-in-Err
+returns-in-Err c k p = prints-as (sent-not _ _ _ (c.select_for_rebroadcast-sent.ensures.rebroadcast_promise k (records p) c.requires.pool_fits.0 c.requires.pool_fits.1.boxes) c.in-Err.is ∙ sent-cut _ _ _ _ _ _ c.min-m.ensures) c.refused.ensures

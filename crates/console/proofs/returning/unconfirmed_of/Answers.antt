@@ -3,4 +3,4 @@ use Rattle.console.proofs.returning.unconfirmed_of.Goals as goal
 
 -- src/returning.rt:35:1
 pub returns : goal.returns
-returns c = unconfirmed-is _ _ _ c.measured_of.ensures c.source_of.ensures
+returns c = unconfirmed-is _ _ c.source_of.ensures

@@ -3,4 +3,4 @@ use Rattle.console.proofs.start.config_of.Goals as goal
 
 -- src/start.rt:32:1
 pub returns : goal.returns
-returns c = config-is _ _ c.strategy_of.ensures
+returns c = config-is _

@@ -8,6 +8,6 @@ unfolding source_of
 returns-in-Some c = sym (rw c.in-Some.is)
 
 -- src/submit.rt:27:1
-pub returns-in-Absent : goal.returns-in-Absent
+pub returns-in-None : goal.returns-in-None
 unfolding source_of
-returns-in-Absent c = sym (rw c.in-Absent.is)
+returns-in-None c = sym (rw c.in-None.is)

@@ -3,4 +3,4 @@ use Rattle.console.proofs.submit.submission_of.Goals as goal
 
 -- src/submit.rt:46:1
 pub returns : goal.returns
-returns c = submission-is _ _ _ c.source_of.ensures c.verdict_of.ensures
+returns c = submission-is _ _ c.source_of.ensures

@@ -4,4 +4,4 @@ use Rattle.entries.specs.Cells.{id-read}
 use Rattle.entries.proofs.cells.id_in.Goals as goal
 
 pub returns : goal.returns
-returns c = c.load_id.ensures ∙ id-read c.args.s.now c.args.i
+returns c = c.get_id.ensures.number ∙ id-read c.args.s.now c.args.i

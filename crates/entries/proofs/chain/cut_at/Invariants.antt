@@ -1,8 +1,8 @@
-use Rattle.entries.specs.Index.{Cuts}
+use Rattle.entries.specs.Index.{Cuts, name_of}
 use Rattle.entries.proofs.chain.cut_at.Given as goal
 
 abbrev pub invariant-loop-below : goal.invariant-loop-below
-invariant-loop-below l = Cuts l.s l.u l.b l.i l.above l.below
+invariant-loop-below l = Cuts l.s l.u l.b l.i (name_of l.above) (name_of l.below)
 
 abbrev pub decreases-loop-below : goal.decreases-loop-below
-decreases-loop-below l = l.below
+decreases-loop-below l = name_of l.below

@@ -1,8 +1,8 @@
-use Rattle.entries.specs.Index.{Seeks}
+use Rattle.entries.specs.Index.{Seeks, name_of}
 use Rattle.entries.proofs.chain.find_slot.Given as goal
 
-abbrev pub invariant-loop-v : goal.invariant-loop-v
-invariant-loop-v l = Seeks l.s l.u l.id l.v
+abbrev pub invariant-loop-next : goal.invariant-loop-next
+invariant-loop-next l = Seeks l.s l.u l.id (name_of l.next)
 
-abbrev pub decreases-loop-v : goal.decreases-loop-v
-decreases-loop-v l = l.v
+abbrev pub decreases-loop-next : goal.decreases-loop-next
+decreases-loop-next l = name_of l.next

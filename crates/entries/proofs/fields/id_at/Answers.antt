@@ -1,13 +1,7 @@
 -- `fields::id_at` meets its contract: the id is read in the slot of the rank (`at-id`). Assumes nothing.
-use native.Mathlib.Omega.{arith}
-use mathlib.Core.Path.{◌∙◌}
+use Rattle.std.proofs.Common.{◌∙◌}
 use Rattle.entries.specs.Cells.{at-id}
-use Rattle.entries.specs.Layout.{EntriesOk}
 use Rattle.entries.proofs.fields.id_at.Goals as goal
-
-pub slot_at-requires : goal.slot_at-requires
-unfolding EntriesOk
-slot_at-requires c = omega arith
 
 pub returns : goal.returns
 returns c = c.id_in.ensures ∙ at-id c.args.s.now c.args.i _ c.slot_at.ensures.0

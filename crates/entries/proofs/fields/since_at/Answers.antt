@@ -1,16 +1,11 @@
--- `fields::since_at` meets its contract: both words are read in the slot of the rank (`at-word`). Assumes nothing.
-use native.Mathlib.Omega.{arith}
-use mathlib.Core.Path.{◌∙◌}
-use Rattle.entries.specs.Cells.{at-word}
-use Rattle.entries.specs.Layout.{EntriesOk}
+-- `fields::since_at` meets its contract: both words are read in the slot of the rank (`at-field`). Assumes nothing.
+use Rattle.std.proofs.Common.{◌∙◌}
+use Rattle.entries.specs.Cells.{at-field}
+use Rattle.entries.specs.declared.fields.Field.TheVariants.{Base, Created}
 use Rattle.entries.proofs.fields.since_at.Goals as goal
-
-pub slot_at-k-requires : goal.slot_at-k-requires
-unfolding EntriesOk
-slot_at-k-requires c = omega arith
 
 pub returns : goal.returns
 returns c =
     let a = c.args in
-    let at = c.slot_at-k.ensures.0 in
-    (c.get-created.ensures ∙ at-word a.s.now a.i _ 10 at (omega arith), c.get-base.ensures ∙ at-word a.s.now a.i _ 5 at (omega arith))
+    let slot = c.slot_at-k.ensures.0 in
+    (c.get.ensures ∙ at-field a.s.now a.i _ _ Created slot c.place.ensures.0, c.get-2.ensures ∙ at-field a.s.now a.i _ _ Base slot c.place-2.ensures.0)

@@ -1,13 +1,7 @@
--- `fields::word_at` meets its contract: the word is read in the slot of the rank (`at-word`). Assumes nothing.
-use native.Mathlib.Omega.{arith}
-use mathlib.Core.Path.{◌∙◌}
-use Rattle.entries.specs.Cells.{at-word}
-use Rattle.entries.specs.Layout.{EntriesOk}
+-- `fields::word_at` meets its contract: the word is read in the slot of the rank (`at-field`). Assumes nothing.
+use Rattle.std.proofs.Common.{◌∙◌}
+use Rattle.entries.specs.Cells.{at-field}
 use Rattle.entries.proofs.fields.word_at.Goals as goal
 
-pub slot_at-requires : goal.slot_at-requires
-unfolding EntriesOk
-slot_at-requires c = omega arith
-
 pub returns : goal.returns
-returns c = c.get.ensures ∙ at-word c.args.s.now c.args.i _ c.args.j c.slot_at.ensures.0 c.requires.plain
+returns c = c.get.ensures ∙ at-field c.args.s.now c.args.i _ _ c.args.field c.slot_at.ensures.0 c.place.ensures.0

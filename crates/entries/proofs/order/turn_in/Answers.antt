@@ -1,9 +1,9 @@
 -- `order::turn_in` meets its contract: the words of the ranks are a slice that turns. Assumes nothing.
-use mathlib.Core.Path.{refl}
-use native.Mathlib.Omega.{arith}
+use Rattle.std.proofs.Common.{arith, refl}
 use Rattle.entries.specs.Turning.{turned-in}
 use Rattle.entries.proofs.order.turn_in.Goals as goal
 
 pub returns : goal.returns
 returns c =
-    turned-in _ _ _ _ _ _ _ c.requires.0 c.requires.1 c.place-a.ensures (omega (arith, c.place-e.ensures)) refl _ refl c.words_in.ensures
+    let turn = c.rotate_right.ensures in
+    turned-in _ _ _ _ _ _ _ c.requires.0 c.requires.1 c.place-from.ensures (omega (arith, c.place-to.ensures)) refl turn.len turn.by_index

@@ -4,18 +4,14 @@ use Rattle.entries.specs.Layout.{EntriesOk}
 use Rattle.entries.specs.Crediting.{credited-at, credited-not}
 use Rattle.entries.proofs.table.credit_entry.Goals as goal
 
-pub known-u-requires : goal.known-u-requires
+pub returns-in-Some : goal.returns-in-Some
 unfolding EntriesOk
-known-u-requires c = c.requires
-
-pub returns-in-At : goal.returns-in-At
-unfolding EntriesOk
-returns-in-At c =
+returns-in-Some c =
     let a = c.args in
-    credited-at a.s.now _ _ _ a.n (id_of a.id) a.amount _ _ c.known-u.ensures.0 c.requires (rw c.in-At.is at c.find_rank.ensures) c.settle.auto.s c.raise-w.ensures c.settle.ensures
+    credited-at a.s.now _ _ _ a.n (id_of a.id) a.amount _ _ c.known-u.ensures.0 c.requires (rw c.in-Some.is at c.find_rank.ensures) c.settle.auto.s c.raise-w.ensures c.settle.ensures
 
-pub returns-in-Nowhere : goal.returns-in-Nowhere
+pub returns-in_default : goal.returns-in_default
 unfolding EntriesOk
-returns-in-Nowhere c =
+returns-in_default c =
     let a = c.args in
-    credited-not a.s.now _ a.n (id_of a.id) a.amount c.known-u.ensures.0 c.requires (rw c.in-Nowhere.is at c.find_rank.ensures)
+    credited-not a.s.now _ a.n (id_of a.id) a.amount c.known-u.ensures.0 c.requires (rw c.in_default.is at c.find_rank.ensures)

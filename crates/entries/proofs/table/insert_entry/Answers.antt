@@ -1,16 +1,7 @@
 -- `table::insert_entry` meets its contract: a free slot is filled and takes its place (`inserted`). Assumes nothing.
-use native.Mathlib.Omega.{arith}
-use Rattle.entries.specs.Layout.{EntriesOk, entry_of}
+use Rattle.entries.specs.Layout.{entry_of}
 use Rattle.entries.specs.Changing.{inserted}
 use Rattle.entries.proofs.table.insert_entry.Goals as goal
-
-pub known-u-requires : goal.known-u-requires
-unfolding EntriesOk
-known-u-requires c = omega arith
-
-pub free_slot-t-requires : goal.free_slot-t-requires
-unfolding EntriesOk
-free_slot-t-requires c = omega (arith, c.known-u.ensures, c.requires)
 
 pub returns : goal.returns
 unfolding entry_of

@@ -5,10 +5,6 @@ use Rattle.entries.specs.Layout.{EntriesOk}
 use Rattle.entries.specs.Changing.{lowest-out}
 use Rattle.entries.proofs.table.remove_lowest.Goals as goal
 
-pub known-u-requires : goal.known-u-requires
-unfolding EntriesOk
-known-u-requires c = c.requires.entries_ok
-
 pub returns : goal.returns
 unfolding EntriesOk
 returns c =

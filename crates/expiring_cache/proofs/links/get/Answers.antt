@@ -28,14 +28,14 @@ overflow_add-first c = omega (arith, c.loop-v.invariant.1.low, c.loop-v-test.tru
 pub row_id-requires : goal.row_id-requires
 row_id-requires c = omega (arith, c.loop-v.invariant.1.low, c.loop-v-test.true, c.loop-v.invariant.0, first_fits c.args.cache.now c.args.n (ok-slots _ _ c.requires))
 
-pub overflow_add-first-then-same_id : goal.overflow_add-first-then-same_id
-overflow_add-first-then-same_id c = omega (arith, c.loop-v.invariant.1.low, c.loop-v-test.true, c.loop-v.invariant.0, first_fits c.args.cache.now c.args.n (ok-slots _ _ c.requires))
+pub overflow_add-first-then-eq : goal.overflow_add-first-then-eq
+overflow_add-first-then-eq c = omega (arith, c.loop-v.invariant.1.low, c.loop-v-test.true, c.loop-v.invariant.0, first_fits c.args.cache.now c.args.n (ok-slots _ _ c.requires))
 
 pub row_since-requires : goal.row_since-requires
 row_since-requires c = omega (arith, c.loop-v.invariant.1.low, c.loop-v-test.true, c.loop-v.invariant.0, first_fits c.args.cache.now c.args.n (ok-slots _ _ c.requires))
 
-pub returns-then-same_id : goal.returns-then-same_id
-returns-then-same_id c = seek_hit c.args.cache.now c.args.n c.args.id _ c.loop-v.v c.loop-v.invariant.0 c.loop-v.invariant.1 (c.loop-v.v - 1) _ _ (omega (arith, c.loop-v-test.true)) c.row_id.ensures (sym c.same_id.ensures ∙ c.if-same_id.true) c.row_since.ensures
+pub returns-then-eq : goal.returns-then-eq
+returns-then-eq c = seek_hit c.args.cache.now c.args.n c.args.id _ c.loop-v.v c.loop-v.invariant.0 c.loop-v.invariant.1 (c.loop-v.v - 1) _ _ (omega (arith, c.loop-v-test.true)) c.row_id.ensures (sym c.eq.ensures ∙ c.if-eq.true) c.row_since.ensures
 
 pub link-v-requires : goal.link-v-requires
 link-v-requires c = omega (arith, c.loop-v.invariant.1.low, c.loop-v-test.true, c.loop-v.invariant.0, first_fits c.args.cache.now c.args.n (ok-slots _ _ c.requires))
@@ -45,7 +45,7 @@ loop-v-smaller c = link-less _ (c.loop-v.v - 1) _ c.loop-v.v c.link-v.ensures (o
 
 pub loop-v-preserved : goal.loop-v-preserved
 unfolding AllWords
-loop-v-preserved c = (c.loop-v.invariant.0, seeks-next c.args.cache.now c.first_slot-first.result c.args.n c.args.id (λ i. omega (arith, c.type_inv.cache i)) (omega arith) c.loop-v.v (c.loop-v.v - 1) c.loop-v.invariant.1 (omega (arith, c.loop-v-test.true)) _ _ c.row_id.ensures (sym c.same_id.ensures ∙ c.if-same_id.false) c.link-v.ensures)
+loop-v-preserved c = (c.loop-v.invariant.0, seeks-next c.args.cache.now c.first_slot-first.result c.args.n c.args.id (λ i. omega (arith, c.type_inv.cache i)) (omega arith) c.loop-v.v (c.loop-v.v - 1) c.loop-v.invariant.1 (omega (arith, c.loop-v-test.true)) _ _ c.row_id.ensures (sym c.eq.ensures ∙ c.if-eq.false) c.link-v.ensures)
 
 pub returns : goal.returns
 returns c = seek-end c.args.cache.now c.args.n c.args.id _ c.loop-v.v c.loop-v.invariant.0 c.loop-v.invariant.1 c.loop-v-test.false

@@ -4,4 +4,4 @@ use Rattle.expiring_cache.proofs.rows.row_id.Goals as goal
 
 pub returns : goal.returns
 unfolding slot_at
-returns c = c.load_id.ensures
+returns c = c.get_id.ensures.number

@@ -13,4 +13,4 @@ pub load_tx-given-requires : goal.load_tx-given-requires
 load_tx-given-requires c = lacked _ _ _ c.lacks.ensures c.if-lacks.false
 
 pub returns : goal.returns
-returns c = return-words _ _ _ _ _ _ _ _ _ _ _ c.return_to_pool-returned.result c.if-state-lt-STATE_WORDS.false c.lacks.ensures c.if-lacks.false c.load_state-mempool.ensures c.load_tx-given.ensures c.return_to_pool-returned.ensures.return_promise c.return_to_pool-returned.ensures.by_index c.return_to_pool-returned.ensures.outcome_value_2 c.store_left.ensures c.return_to_pool-returned.ensures.outcome_value (says-by c.put.ensures c.return_told.ensures)
+returns c = return-words _ _ _ _ _ _ _ _ _ _ _ c.return_to_pool-returned.result c.if-state-lt-STATE_WORDS.false c.lacks.ensures c.if-lacks.false c.load_state-mempool.ensures c.load_tx-given.ensures c.return_to_pool-returned.ensures.return_promise c.return_to_pool-returned.ensures.by_index c.return_to_pool-returned.ensures.outcome_value_2 c.store_left.ensures c.return_to_pool-returned.ensures.outcome_value (says-by c.put.ensures c.into.ensures)

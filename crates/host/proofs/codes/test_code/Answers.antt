@@ -1,17 +1,20 @@
 -- `codes::test_code` meets its contract, outcome by outcome. Assumes nothing.
-use mathlib.Core.Path.{sym, ap}
+use mathlib.Core.Path.{sym, ap, ◌∙◌, refl, ◌≡◌}
+use mathlib.Core.Bool.{Bool, true, false}
+use mir.Val.{bool_byte}
+use Rattle.words.specs.Lists.{pick}
 use Rattle.pool_types.specs.Outcomes.{tested_of}
 use Rattle.host.specs.Queries.{query_of}
 use Rattle.host.proofs.codes.test_code.Goals as goal
 
-pub returns-in-Yes : goal.returns-in-Yes
-unfolding query_of tested_of
-returns-in-Yes c = sym (ap (λ o. query_of (tested_of o)) c.in-Yes.is)
+byte : (b : Bool) → bool_byte b ≡ pick b 1 0
+byte true = refl
+byte false = refl
 
-pub returns-in-No : goal.returns-in-No
+pub returns-in-Ok : goal.returns-in-Ok
 unfolding query_of tested_of
-returns-in-No c = sym (ap (λ o. query_of (tested_of o)) c.in-No.is)
+returns-in-Ok c = c.from.ensures ∙ byte c.in-Ok.said ∙ sym (ap (λ o. query_of (tested_of o)) c.in-Ok.is)
 
-pub returns-in-NotTested : goal.returns-in-NotTested
+pub returns-in-Err : goal.returns-in-Err
 unfolding query_of tested_of
-returns-in-NotTested c = sym (ap (λ o. query_of (tested_of o)) c.in-NotTested.is)
+returns-in-Err c = c.refusal_code.ensures ∙ sym (ap (λ o. query_of (tested_of o)) c.in-Err.is)

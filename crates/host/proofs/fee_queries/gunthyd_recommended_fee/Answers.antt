@@ -6,13 +6,13 @@ use Rattle.host.specs.Fees.{figure-few, figure-few-stats, figure-room, figure-by
 use Rattle.host.proofs.fee_queries.gunthyd_recommended_fee.Goals as goal
 
 pub returns-then-state-lt-STATE_WORDS : goal.returns-then-state-lt-STATE_WORDS
-returns-then-state-lt-STATE_WORDS c = figure-few _ _ _ _ c.if-state-lt-STATE_WORDS.true
+returns-then-state-lt-STATE_WORDS c = rw c.refusal_code.ensures (figure-few _ _ _ _ c.if-state-lt-STATE_WORDS.true)
 
 pub returns-then-stats-lt-STATS_WORDS : goal.returns-then-stats-lt-STATS_WORDS
-returns-then-stats-lt-STATS_WORDS c = figure-few-stats _ _ _ _ c.if-state-lt-STATE_WORDS.false c.if-stats-lt-STATS_WORDS.true
+returns-then-stats-lt-STATS_WORDS c = rw c.refusal_code-then-stats-lt-STATS_WORDS.ensures (figure-few-stats _ _ _ _ c.if-state-lt-STATE_WORDS.false c.if-stats-lt-STATS_WORDS.true)
 
 pub returns-then-answer-lt1 : goal.returns-then-answer-lt1
-returns-then-answer-lt1 c = figure-room _ _ _ _ c.if-state-lt-STATE_WORDS.false c.if-stats-lt-STATS_WORDS.false c.if-answer-lt1.true
+returns-then-answer-lt1 c = rw c.refusal_code-then-answer-lt1.ensures (figure-room _ _ _ _ c.if-state-lt-STATE_WORDS.false c.if-stats-lt-STATS_WORDS.false c.if-answer-lt1.true)
 
 pub slice_bounds-recommended_in-end : goal.slice_bounds-recommended_in-end
 slice_bounds-recommended_in-end c = simp length-take (omega arith)

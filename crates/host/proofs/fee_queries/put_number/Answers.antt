@@ -2,8 +2,8 @@
 use Rattle.host.specs.Fees.{figure-number, figure-refused}
 use Rattle.host.proofs.fee_queries.put_number.Goals as goal
 
-pub returns-in-Number : goal.returns-in-Number
-returns-in-Number c = figure-number _ _ c.in-Number.is
+pub returns-in-Ok : goal.returns-in-Ok
+returns-in-Ok c = figure-number _ _ c.in-Ok.is
 
-pub returns-in-NoNumber : goal.returns-in-NoNumber
-returns-in-NoNumber c = figure-refused _ _ c.in-NoNumber.is
+pub returns-in-Err : goal.returns-in-Err
+returns-in-Err c = rw c.refusal_code.ensures (figure-refused _ _ c.in-Err.is)

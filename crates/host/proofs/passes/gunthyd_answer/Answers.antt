@@ -10,4 +10,4 @@ pub returns-then-res-lt-RESULT_WORDS : goal.returns-then-res-lt-RESULT_WORDS
 returns-then-res-lt-RESULT_WORDS c = answer-short _ _ _ _ _ _ _ _ c.if-state-lt-STATE_WORDS.false c.if-res-lt-RESULT_WORDS.true c.too_few_of_answer.ensures c.refuse-then-res-lt-RESULT_WORDS.ensures
 
 pub returns : goal.returns
-returns c = answer-words _ _ _ _ _ _ _ _ _ _ _ _ c.answer-answered.result c.if-state-lt-STATE_WORDS.false c.if-res-lt-RESULT_WORDS.false c.load_state-mempool.ensures c.verdict_of-said.ensures c.store_state.ensures c.answer-answered.ensures.answer_promise c.answer-answered.ensures.spares c.answer-answered.ensures.outcome_value_2 c.answer-answered.ensures.outcome_value (says-by c.put.ensures c.answer_told.ensures)
+returns c = answer-words _ _ _ _ _ _ _ _ _ _ _ _ c.answer-answered.result c.if-state-lt-STATE_WORDS.false c.if-res-lt-RESULT_WORDS.false c.load_state-mempool.ensures c.verdict_of-said.ensures c.store_state.ensures c.answer-answered.ensures.answer_promise c.answer-answered.ensures.spares c.answer-answered.ensures.outcome_value_2 c.answer-answered.ensures.outcome_value (says-by c.put.ensures c.into.ensures)

@@ -10,4 +10,4 @@ pub returns-then-res-lt-RESULT_WORDS : goal.returns-then-res-lt-RESULT_WORDS
 returns-then-res-lt-RESULT_WORDS c = next-short _ _ _ _ c.if-state-lt-STATE_WORDS.false c.if-res-lt-RESULT_WORDS.true c.too_few_of_next.ensures c.refuse-then-res-lt-RESULT_WORDS.ensures
 
 pub returns : goal.returns
-returns c = next-words _ _ _ _ _ c.next-offered.result c.if-state-lt-STATE_WORDS.false c.if-res-lt-RESULT_WORDS.false c.load_state-mempool.ensures c.store_state.ensures c.next-offered.ensures.next_promise c.next-offered.ensures.by_index c.next-offered.ensures.outcome_value_2 c.next-offered.ensures.mempool_value c.next-offered.ensures.outcome_value (says-by c.put.ensures c.next_told.ensures)
+returns c = next-words _ _ _ _ _ c.next-offered.result c.if-state-lt-STATE_WORDS.false c.if-res-lt-RESULT_WORDS.false c.load_state-mempool.ensures c.store_state.ensures c.next-offered.ensures.next_promise c.next-offered.ensures.by_index c.next-offered.ensures.outcome_value_2 c.next-offered.ensures.mempool_value c.next-offered.ensures.outcome_value (says-by c.put.ensures c.into.ensures)

@@ -10,4 +10,4 @@ pub returns-then-res-lt-RESULT_WORDS : goal.returns-then-res-lt-RESULT_WORDS
 returns-then-res-lt-RESULT_WORDS c = open-short _ _ _ _ _ _ c.if-state-lt-STATE_WORDS.false c.if-res-lt-RESULT_WORDS.true c.too_few.ensures c.refuse-then-res-lt-RESULT_WORDS.ensures
 
 pub returns : goal.returns
-returns c = open-words _ _ _ _ _ _ _ c.open-opened.result c.if-state-lt-STATE_WORDS.false c.if-res-lt-RESULT_WORDS.false c.load_state-mempool.ensures c.store_state.ensures c.open-opened.ensures.open_promise c.open-opened.ensures.by_index c.open-opened.ensures.pass_only c.open-opened.ensures.outcome_value (says-by c.put.ensures c.open_told.ensures)
+returns c = open-words _ _ _ _ _ _ _ c.open-opened.result c.if-state-lt-STATE_WORDS.false c.if-res-lt-RESULT_WORDS.false c.load_state-mempool.ensures c.store_state.ensures c.open-opened.ensures.open_promise c.open-opened.ensures.by_index c.open-opened.ensures.pass_only c.open-opened.ensures.outcome_value (says-by c.put.ensures c.into.ensures)

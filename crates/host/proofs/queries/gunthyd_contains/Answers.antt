@@ -1,15 +1,15 @@
 -- `gunthyd_contains` meets its contract: what contains says of the state that was read. Assumes nothing.
+use Rattle.std.specs.Prelude.{Ok, false}
 use Rattle.host.specs.Queries.{query-short, query-by}
 use Rattle.mempool.specs.Queries.{contains_of, contains_with, test_said}
-use Rattle.pool_types.specs.declared.TestOutcome.TheVariants.{No}
 use Rattle.words.specs.Ids.{id_of}
 use Rattle.host.proofs.queries.gunthyd_contains.Goals as goal
 
 pub returns-then-state-lt-STATE_WORDS-clause-value : goal.returns-then-state-lt-STATE_WORDS-clause-value
-returns-then-state-lt-STATE_WORDS-clause-value c = (No, query-short _ _ c.if-state-lt-STATE_WORDS.true)
+returns-then-state-lt-STATE_WORDS-clause-value c = (Ok false, rw c.refusal_code.ensures (query-short _ _ c.if-state-lt-STATE_WORDS.true))
 
 pub returns-then-state-lt-STATE_WORDS-clause-value_2 : goal.returns-then-state-lt-STATE_WORDS-clause-value_2
-returns-then-state-lt-STATE_WORDS-clause-value_2 c = λ _ _. query-short _ _ c.if-state-lt-STATE_WORDS.true
+returns-then-state-lt-STATE_WORDS-clause-value_2 c = λ _ _. (rw c.refusal_code.ensures (query-short _ _ c.if-state-lt-STATE_WORDS.true))
 
 pub returns-clause-value : goal.returns-clause-value
 returns-clause-value c = let a = c.args in

@@ -5,7 +5,7 @@ use mathlib.Core.Path.{refl}
 use Rattle.host.proofs.queries.gunthyd_len.Goals as goal
 
 pub returns-then-state-lt-STATE_WORDS : goal.returns-then-state-lt-STATE_WORDS
-returns-then-state-lt-STATE_WORDS c = query-short _ _ c.if-state-lt-STATE_WORDS.true
+returns-then-state-lt-STATE_WORDS c = rw c.refusal_code.ensures (query-short _ _ c.if-state-lt-STATE_WORDS.true)
 
 pub returns : goal.returns
 unfolding query_of

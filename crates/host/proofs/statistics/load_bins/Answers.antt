@@ -4,4 +4,4 @@ use Rattle.host.specs.Statistics.{loading-more}
 use Rattle.host.proofs.statistics.load_bins.Goals as goal
 
 pub loop-i-preserved : goal.loop-i-preserved
-loop-i-preserved c = (omega arith, loading-more _ _ _ _ (omega arith) (omega arith) c.loop-i.invariant.1)
+loop-i-preserved c = loading-more _ _ _ _ (omega arith) (omega arith) c.loop-i.invariant

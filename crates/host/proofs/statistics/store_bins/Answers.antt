@@ -4,4 +4,4 @@ use Rattle.host.specs.Statistics.{storing-more}
 use Rattle.host.proofs.statistics.store_bins.Goals as goal
 
 pub loop-i-preserved : goal.loop-i-preserved
-loop-i-preserved c = (omega arith, storing-more _ _ _ _ _ (omega arith) (omega arith) c.loop-i.invariant.1)
+loop-i-preserved c = storing-more _ _ _ _ _ (omega arith) (omega arith) c.loop-i.invariant

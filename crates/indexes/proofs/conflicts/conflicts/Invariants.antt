@@ -1,4 +1,3 @@
-use Prim.Native.Nat.{◌-◌}
 use mathlib.Core.Bool.{false}
 use Rattle.boxes.specs.Layout.{boxes_of}
 use Rattle.boxes.specs.Index.{BoxesKept}
@@ -8,6 +7,3 @@ use Rattle.indexes.proofs.conflicts.conflicts.Given as goal
 
 abbrev pub invariant-loop-j : goal.invariant-loop-j
 invariant-loop-j l = Listing (BoxesKept l.s l.n) (index false (boxes_of l.s l.n)) l.width l.inputs l.initial.list l.list l.j l.count
-
-abbrev pub decreases-loop-j : goal.decreases-loop-j
-decreases-loop-j l = l.total - l.j

@@ -3,5 +3,5 @@ use mathlib.Core.Path.{sym, ◌∙◌}
 use Rattle.indexes.specs.Conflicts.{added_new}
 use Rattle.indexes.proofs.conflicts.put_once.Goals as goal
 
-pub returns-else-among : goal.returns-else-among
-returns-else-among c = rw c.put_id.ensures (added_new _ _ _ c.requires (sym c.among.ensures ∙ c.if-among.false))
+pub returns : goal.returns
+returns c = rw c.put_id.ensures (added_new _ _ _ c.requires (sym c.among.ensures ∙ c.if-among.false))

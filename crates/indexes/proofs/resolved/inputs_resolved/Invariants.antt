@@ -1,4 +1,3 @@
-use Prim.Native.Nat.{◌-◌}
 use mathlib.Core.Bool.{true}
 use Rattle.boxes.specs.Records.{index}
 use Rattle.boxes.specs.Layout.{boxes_of}
@@ -8,6 +7,3 @@ use Rattle.indexes.proofs.resolved.inputs_resolved.Given as goal
 
 abbrev pub invariant-loop-j : goal.invariant-loop-j
 invariant-loop-j l = Submitting (BoxesKept l.s l.n) (index true (boxes_of l.s l.n)) l.inputs l.j
-
-abbrev pub decreases-loop-j : goal.decreases-loop-j
-decreases-loop-j l = l.total - l.j

@@ -4,10 +4,10 @@ use Rattle.process.specs.Words.{stored-none, stored_next, stored-all}
 use Rattle.process.proofs.peer_words.store_peers.Goals as goal
 
 pub loop-i-init : goal.loop-i-init
-loop-i-init c = (omega arith, stored-none _ _)
+loop-i-init c = stored-none _ _
 
 pub loop-i-preserved : goal.loop-i-preserved
-loop-i-preserved c = (omega arith, stored_next _ _ _ _ c.loop-i.invariant.1 (omega arith) (omega arith))
+loop-i-preserved c = stored_next _ _ _ _ c.loop-i.invariant (omega arith) (omega arith)
 
 pub returns : goal.returns
-returns c = (stored-all _ _ _ _ c.loop-i.invariant.1 (omega arith), omega arith)
+returns c = (stored-all _ _ _ _ c.loop-i.invariant (omega arith), omega arith)
