@@ -1,7 +1,7 @@
 -- Laws of numbers in text: what the readers and printers do, and that reading what was printed gives it back (`number-back`, `id-back`).
-use Rattle.std.specs.Prelude.{ℕ, zero, suc, ◌+◌, ◌-◌, ◌*◌, ◌/◌, ◌%◌, ◌^◌, ◌<◌, ◌≤◌, ◌≡◌, Bool, length, get_or, take, drop, set, ltb}
+use Rattle.std.specs.Prelude.{ℕ, zero, suc, ◌+◌, ◌-◌, ◌*◌, ◌/◌, ◌%◌, ◌^◌, ◌<◌, ◌≤◌, ◌≡◌, Bool, length, get_or, take, drop, set, ltb, Option, Some, None}
 use Rattle.std.proofs.Math.Path.{refl, sym, ap, ap₂, subst}
-use Rattle.std.proofs.Common.{◌∙◌, add-one, mod-eq_of_lt, mul-le-mul_right, mul-le-mul_left, le-div_iff_mul-le, div-lt_iff_lt-mul, div-add-mod', mod-lt, pow-suc, mul_assoc, add-mul, one-mul, length-drop, length-append, take-append-drop, drop-cons, drop-drop, take-add, take-take, length-take-le, drop_at, take_at, leb-true, le-leb, lt-ltb, le-ltb, ltb-true, ltb-false}
+use Rattle.std.proofs.Common.{◌∙◌, add-one, mod-eq_of_lt, mul-le-mul_right, mul-le-mul_left, le-div_iff_mul-le, div-lt_iff_lt-mul, div-add-mod', mod-lt, pow-suc, mul_assoc, add-mul, one-mul, length-drop, length-append, take-append-drop, drop-cons, drop_of_length-le, drop-drop, take-add, take-take, length-take-le, drop_at, take_at, leb-true, le-leb, lt-ltb, le-ltb, ltb-true, ltb-false}
 use Rattle.std.proofs.Math.Bool.{true, false}
 use mathlib.Core.List.{List, [], ◌∷◌, ◌++◌, append_assoc}
 use native.Mathlib.Omega.{arith}
@@ -12,12 +12,9 @@ use Rattle.std.proofs.lemmas.Bool.{lt-leb}
 use Rattle.words.specs.Lists.{pick}
 use Rattle.words.specs.Ids.{Words}
 use Rattle.words.specs.declared.ids.Id.{Id}
-use Rattle.forms.specs.Text.{within, part}
+use Rattle.forms.specs.Text.{within}
 use Rattle.forms.specs.TextLaws.{true-false, by_bool}
-use Rattle.forms.specs.declared.nums.IdRead.TheVariants.{Of, NoId}
-use Rattle.forms.specs.declared.nums.Number.{Number}
-use Rattle.forms.specs.declared.nums.Number.TheVariants.{Value, NoNumber}
-use Rattle.forms.specs.Nums.{digit_of, is_digits, more, number, decimal, is_hex, front, last16, joined, id_number, id_of_digits, id_read, digit_byte, numeral, decimal_text, id_text, over, Prints, Digits, Numeral, Stepped, Lower, Shows, Printed, upto, Pads, Padded, Sofar, Words16, Walked}
+use Rattle.forms.specs.Nums.{digit_of, is_digits, more, number, decimal, is_hex, front, last16, joined, id_number, id_of_digits, id_read, digit_byte, numeral, decimal_text, id_text, over, Prints, Digits, IsDigit, Numeral, Stepped, Lower, Shows, Printed, upto, Pads, Padded, Sofar, Words16, Walked}
 
 -- ---- the numbers
 
@@ -53,16 +50,6 @@ unfolding Digits
 digits-front b [] t x = (tt, x)
 digits-front b (c ∷ s) t x = let r = digits-front b s t x.1 in ((x.0, r.0), r.1)
 
--- ---- a place in a line
-
-pub part-cons : (l : List ℕ) (i e : ℕ) → i < e → e ≤ length l → part i e l ≡ get_or l i 0 ∷ part (i + 1) e l
-part-cons l i e lt le =
-    let k : e - i ≡ suc (e - (i + 1)) = omega arith in
-    rw (k, drop-cons l i 0 (omega arith), add-one i)
-
-pub part_end : (l : List ℕ) (i e : ℕ) → e ≤ i → part i e l ≡ []
-part_end l i e h = let k : e - i ≡ 0 = omega arith in rw k
-
 -- ---- reading
 
 -- what is left to read, over what was read, is the whole
@@ -76,7 +63,7 @@ pub goes-start : (b limit : ℕ) (s : List ℕ) → Goes b limit s s 0
 goes-start b limit s = record { small = omega arith; ahead = λ x. x; back = λ x. x; same = refl }
 
 module _ (b limit : ℕ) (s : List ℕ) (c : ℕ) (r r' : List ℕ) (v : ℕ) (cut : r ≡ c ∷ r') (o : Goes b limit s r v) where
-  pub goes_on : (w : ℕ) → digit_of c < b → Stepped limit (v * b + digit_of c) (Value w) → Goes b limit s r' w
+  pub goes_on : (w : ℕ) → digit_of c < b → Stepped limit (v * b + digit_of c) (Some w) → Goes b limit s r' w
   unfolding Digits more Stepped
   goes_on w h st =
       record {
@@ -86,38 +73,60 @@ module _ (b limit : ℕ) (s : List ℕ) (c : ℕ) (r r' : List ℕ) (v : ℕ) (c
         same = ap (λ (n : ℕ). more b n r') st.0 ∙ ap (λ (z : List ℕ). more b v z) (sym cut) ∙ o.same;
       }
 
-  pub ends-digit : b ≤ digit_of c → Numeral b limit s NoNumber
+  pub ends-digit : b ≤ digit_of c → Numeral b limit s None
   unfolding Digits Numeral
   ends-digit h d n = absurd (let x = subst (λ (z : List ℕ). Digits b z) cut (o.back d) in omega (arith, x.0))
 
-  pub ends-over : 0 < b → Stepped limit (v * b + digit_of c) NoNumber → Numeral b limit s NoNumber
+  pub ends-over : 0 < b → Stepped limit (v * b + digit_of c) None → Numeral b limit s None
   unfolding more Stepped Numeral
   ends-over p st d n =
       let e : more b (v * b + digit_of c) r' ≡ number b s = ap (λ (z : List ℕ). more b v z) (sym cut) ∙ o.same in
       let m = more-le b (v * b + digit_of c) r' p in
       absurd (omega arith)
 
-pub ends-value : (b limit : ℕ) (s : List ℕ) (v : ℕ) → Goes b limit s [] v → Numeral b limit s (Value v)
+pub ends-value : (b limit : ℕ) (s : List ℕ) (v : ℕ) → Goes b limit s [] v → Numeral b limit s (Some v)
 unfolding Digits more Numeral
 ends-value b limit s v o = (o.ahead tt, o.same, o.small)
+
+-- what is left of the digits from index i on
+pub left-cons : (s : List ℕ) (i : ℕ) → i < length s → drop i s ≡ get_or s i 0 ∷ drop (i + 1) s
+left-cons s i h = drop-cons s i 0 h ∙ ap (λ (k : ℕ). get_or s i 0 ∷ drop k s) (sym (add-one i))
+
+pub left-none : (s : List ℕ) (i : ℕ) → length s ≤ i → drop i s ≡ []
+left-none s i h = drop_of_length-le s {i = i} h
+
+pub at-digit : (limit v b c d : ℕ) (r : Option ℕ) → d ≡ digit_of c → Stepped limit (v * b + d) r → Stepped limit (v * b + digit_of c) r
+at-digit limit v b c d r e x = subst (λ (z : ℕ). Stepped limit (v * b + z) r) e x
 
 -- ---- one step, and one digit
 
 module _ (limit v b d : ℕ) where
-  pub step-big : limit < d → Stepped limit (v * b + d) NoNumber
+  pub step-over : limit < v * b + d → Stepped limit (v * b + d) None
   unfolding Stepped
-  step-big h = omega arith
+  step-over h = h
 
-  pub step-over : 0 < b → d ≤ limit → (limit - d) / b < v → Stepped limit (v * b + d) NoNumber
+  pub step_in : v * b + d ≤ limit → Stepped limit (v * b + d) (Some (v * b + d))
   unfolding Stepped
-  step-over p h q = let x : limit - d < v * b = (div-lt_iff_lt-mul p).0 q in omega arith
+  step_in h = (refl, h)
 
-  pub step_fits : 0 < b → d ≤ limit → v ≤ (limit - d) / b → v * b + d ≤ limit
-  step_fits p h q = let x : v * b ≤ limit - d = (le-div_iff_mul-le p).0 q in omega arith
+within-yes : (a z c : ℕ) → a ≤ c → c ≤ z → within a z c ≡ true
+within-yes a z c h k = ap₂ (λ (x y : Bool). pick x y false) (le-leb a c h) (le-leb c z k)
 
-  pub step_in : 0 < b → d ≤ limit → v ≤ (limit - d) / b → Stepped limit (v * b + d) (Value (v * b + d))
-  unfolding Stepped
-  step_in p h q = (refl, step_fits p h q)
+within-no : (a z c : ℕ) → z < c → within a z c ≡ false
+within-no a z c h = ap (λ (y : Bool). pick (leb a c) y false) (lt-leb c z h) ∙ any (leb a c)
+  where
+    any : (b : Bool) → pick b false false ≡ false
+    any true = refl
+    any false = refl
+
+within-out : (a z c : ℕ) → (a ≤ c → c ≤ z → ⊥) → within a z c ≡ false
+within-out a z c n =
+    by_bool (leb a c)
+    (λ p. ap (λ (b : Bool). pick b (leb c z) false) p ∙ by_bool (leb c z) (λ q. absurd (n (leb-true a c p) (leb-true c z q))) (λ q. q))
+    (λ p. ap (λ (b : Bool). pick b (leb c z) false) p)
+
+within-below : (a z c : ℕ) → c < a → within a z c ≡ false
+within-below a z c h = within-out a z c (λ p q. omega arith)
 
 pub within_low : (a z c : ℕ) → within a z c ≡ true → (a ≤ c) × (c ≤ z)
 within_low a z c e =
@@ -142,6 +151,29 @@ module _ (c : ℕ) where
   unfolding digit_of
   digit-4 e f g = ap₂ (λ (a b : Bool). pick a (c - 48) (pick b (c - 87) (pick (within 65 70 c) (c - 55) 99))) e f ∙ ap (λ (b : Bool). pick b (c - 55) 99) g
 
+module _ (c : ℕ) where
+  pub digit-low : 48 ≤ c → c ≤ 57 → IsDigit c (Some (c - 48))
+  unfolding IsDigit
+  digit-low p q = (sym (digit-1 c (within-yes 48 57 c p q)), omega arith)
+
+  pub digit-lower : 97 ≤ c → c ≤ 102 → IsDigit c (Some (c - 97 + 10))
+  unfolding IsDigit
+  digit-lower p q =
+      let e = digit-2 c (within-no 48 57 c (omega arith)) (within-yes 97 102 c p q) in
+      (omega arith, omega arith)
+
+  pub digit-upper : 65 ≤ c → c ≤ 70 → IsDigit c (Some (c - 65 + 10))
+  unfolding IsDigit
+  digit-upper p q =
+      let e = digit-3 c (within-no 48 57 c (omega arith)) (within-below 97 102 c (omega arith)) (within-yes 65 70 c p q) in
+      (omega arith, omega arith)
+
+  pub digit-none : (48 ≤ c → c ≤ 57 → ⊥) → (97 ≤ c → c ≤ 102 → ⊥) → (65 ≤ c → c ≤ 70 → ⊥) → IsDigit c None
+  unfolding IsDigit
+  digit-none n m k =
+      let e = digit-4 c (within-out 48 57 c n) (within-out 97 102 c m) (within-out 65 70 c k) in
+      omega arith
+
 nil-of : (t : List ℕ) → length t ≡ 0 → t ≡ []
 nil-of [] e = refl
 nil-of (c ∷ t) e = absurd (omega arith)
@@ -161,64 +193,51 @@ digits_of b (c ∷ s) e =
     (λ t. (ltb-true (digit_of c) b t, digits_of b s (sym (ap (λ (z : Bool). pick z (is_digits b s) false) t) ∙ e)))
     (λ t. true-false e (ap (λ (z : Bool). pick z (is_digits b s) false) t))
 
-module _ (l : List ℕ) (i e : ℕ) (lt : i < e) (le : e ≤ length l) where
-  pub digits_step : digit_of (get_or l i 0) < 16 → is_digits 16 (part (i + 1) e l) ≡ is_digits 16 (part i e l)
-  unfolding is_digits
-  digits_step h = sym (ap (is_digits 16) (part-cons l i e lt le) ∙ ap (λ (t : Bool). pick t (is_digits 16 (part (i + 1) e l)) false) (lt-ltb (digit_of (get_or l i 0)) 16 h))
-
-  pub digits-stop : 16 ≤ digit_of (get_or l i 0) → false ≡ is_digits 16 (part i e l)
-  unfolding is_digits
-  digits-stop h = sym (ap (is_digits 16) (part-cons l i e lt le) ∙ ap (λ (t : Bool). pick t (is_digits 16 (part (i + 1) e l)) false) (le-ltb (digit_of (get_or l i 0)) 16 h))
-
-pub digits-done : (l : List ℕ) (i e : ℕ) → e ≤ i → true ≡ is_digits 16 (part i e l)
-unfolding is_digits
-digits-done l i e h = sym (ap (is_digits 16) (part_end l i e h))
-
 -- ---- the decimal reader
 
 -- what its three tests make of a decimal number
 module _ (limit : ℕ) (s : List ℕ) where
-  pub decimal-yes : 0 < length s → Digits 10 s → number 10 s ≤ limit → decimal limit s ≡ Value (number 10 s)
+  pub decimal-yes : 0 < length s → Digits 10 s → number 10 s ≤ limit → decimal limit s ≡ Some (number 10 s)
   unfolding decimal
   decimal-yes h d n =
-      ap (λ (t : Bool). pick t (pick (is_digits 10 s) (pick (leb (number 10 s) limit) (Value (number 10 s)) NoNumber) NoNumber) NoNumber) (lt-ltb 0 (length s) h)
-      ∙ ap₂ (λ (t u : Bool). pick t (pick u (Value (number 10 s)) NoNumber) NoNumber) (digits-yes 10 s d) (le-leb (number 10 s) limit n)
+      ap (λ (t : Bool). pick t (pick (is_digits 10 s) (pick (leb (number 10 s) limit) (Some (number 10 s)) None) None) None) (lt-ltb 0 (length s) h)
+      ∙ ap₂ (λ (t u : Bool). pick t (pick u (Some (number 10 s)) None) None) (digits-yes 10 s d) (le-leb (number 10 s) limit n)
 
-  pub decimal-none : length s ≡ 0 → decimal limit s ≡ NoNumber
+  pub decimal-none : length s ≡ 0 → decimal limit s ≡ None
   unfolding decimal
-  decimal-none h = ap (λ (t : Bool). pick t (pick (is_digits 10 s) (pick (leb (number 10 s) limit) (Value (number 10 s)) NoNumber) NoNumber) NoNumber) (le-ltb 0 (length s) (omega arith))
+  decimal-none h = ap (λ (t : Bool). pick t (pick (is_digits 10 s) (pick (leb (number 10 s) limit) (Some (number 10 s)) None) None) None) (le-ltb 0 (length s) (omega arith))
 
-  pub decimal-no : (Digits 10 s → number 10 s ≤ limit → ⊥) → decimal limit s ≡ NoNumber
+  pub decimal-no : (Digits 10 s → number 10 s ≤ limit → ⊥) → decimal limit s ≡ None
   unfolding decimal
   decimal-no n = go (ltb 0 (length s)) (is_digits 10 s) refl (leb (number 10 s) limit) refl
     where
-      go : (t u : Bool) → is_digits 10 s ≡ u → (v : Bool) → leb (number 10 s) limit ≡ v → pick t (pick u (pick v (Value (number 10 s)) NoNumber) NoNumber) NoNumber ≡ NoNumber
+      go : (t u : Bool) → is_digits 10 s ≡ u → (v : Bool) → leb (number 10 s) limit ≡ v → pick t (pick u (pick v (Some (number 10 s)) None) None) None ≡ None
       go false u e v f = refl
       go true false e v f = refl
       go true true e false f = refl
       go true true e true f = absurd (n (digits_of 10 s e) (leb-true (number 10 s) limit f))
 
-  pub decimal-is : (r : Number) → 0 < length s → Numeral 10 limit s r → r ≡ decimal limit s
+  pub decimal-is : (r : Option ℕ) → 0 < length s → Numeral 10 limit s r → r ≡ decimal limit s
   unfolding Numeral
-  decimal-is (Value v) h n = ap Value n.1 ∙ sym (decimal-yes h n.0 (omega (arith, n.1)))
-  decimal-is NoNumber h n = sym (decimal-no n)
+  decimal-is (Some v) h n = ap Some n.1 ∙ sym (decimal-yes h n.0 (omega (arith, n.1)))
+  decimal-is None h n = sym (decimal-no n)
 
 -- what is read is at most the limit
-pub decimal-le : (limit : ℕ) (s : List ℕ) (v : ℕ) → decimal limit s ≡ Value v → v ≤ limit
+pub decimal-le : (limit : ℕ) (s : List ℕ) (v : ℕ) → decimal limit s ≡ Some v → v ≤ limit
 unfolding decimal
 decimal-le limit s v e = go (ltb 0 (length s)) (is_digits 10 s) (leb (number 10 s) limit) refl e
   where
-    value-is : {m n : ℕ} → Value m ≡ Value n → m ≡ n
+    value-is : {m n : ℕ} → Some m ≡ Some n → m ≡ n
     value-is q = cc
 
-    none_is : {A : Type 0} {n : ℕ} → NoNumber ≡ Value n → A
+    none_is : {A : Type 0} {n : ℕ} → None ≡ Some n → A
     none_is q = absurd (let z : ◌≡◌ {A = ℕ} 0 1 = ap kind q in omega arith)
       where
-        kind : Number → ℕ
-        kind (Value v) = 1
-        kind NoNumber = 0
+        kind : Option ℕ → ℕ
+        kind (Some v) = 1
+        kind None = 0
 
-    go : (t u w : Bool) → leb (number 10 s) limit ≡ w → pick t (pick u (pick w (Value (number 10 s)) NoNumber) NoNumber) NoNumber ≡ Value v → v ≤ limit
+    go : (t u w : Bool) → leb (number 10 s) limit ≡ w → pick t (pick u (pick w (Some (number 10 s)) None) None) None ≡ Some v → v ≤ limit
     go true true true f q = subst (λ (z : ℕ). z ≤ limit) (value-is q) (leb-true (number 10 s) limit f)
     go true true false f q = none_is q
     go true false w f q = none_is q
@@ -243,27 +262,6 @@ sixteen-lt s d h =
     let lt = number_lt 16 s d (omega arith) in
     let le : 16 ^ length s ≤ 16 ^ 16 = pow-le-pow_right (omega arith) {i = length s} {j = 16} h in
     omega arith
-
-pub part_length : (l : List ℕ) (s e : ℕ) → s ≤ e → e ≤ length l → length (part s e l) ≡ e - s
-part_length l s e h k = length-take-le (e - s) (drop s l) (omega (arith, length-drop s l))
-
-part-split : (l : List ℕ) (s p e : ℕ) → s ≤ p → p ≤ e → part s e l ≡ part s p l ++ part p e l
-part-split l s p e h k =
-    let n : e - s ≡ (p - s) + (e - p) = omega arith in
-    let m : s + (p - s) ≡ p = omega arith in
-    ap (λ (z : ℕ). take z (drop s l)) n ∙ take-add (p - s) (e - p) (drop s l) ∙ ap (λ (z : List ℕ). part s p l ++ take (e - p) z) (drop-drop (p - s) s l ∙ ap (λ (z : ℕ). drop z l) m)
-
--- the digits of a word as the code cuts them off
-module _ (l : List ℕ) (s e p : ℕ) (h : s ≤ e) (k : e ≤ length l) (cut : p ≡ s + (e - s - 16)) where
-  pub part-front : part s p l ≡ front (part s e l)
-  part-front =
-      let n : p - s ≡ length (part s e l) - 16 = omega (arith, part_length l s e h k) in
-      ap (λ (z : ℕ). take z (drop s l)) n ∙ sym (take-take (length (part s e l) - 16) (e - s) (drop s l) (omega (arith, part_length l s e h k)))
-
-  pub part-last : part p e l ≡ last16 (part s e l)
-  part-last =
-      let n : length (part s p l) ≡ length (part s e l) - 16 = part_length l s p (omega arith) (omega arith) ∙ omega (arith, part_length l s e h k) in
-      sym (ap (drop (length (part s e l) - 16)) (part-split l s p e (omega arith) (omega arith)) ∙ drop_at (part s p l) (part p e l) (length (part s e l) - 16) n)
 
 front-last : (s : List ℕ) → front s ++ last16 s ≡ s
 front-last s = take-append-drop (length s - 16) s
@@ -290,44 +288,6 @@ number-join s =
     let z : number 16 (front s) ≡ 0 = ap (λ (z : List ℕ). number 16 z) (nil-of (front s) n) in
     ap (λ (z : ℕ). z * 16 ^ length (last16 s) + number 16 (last16 s)) z ∙ omega (arith, z))
 
--- the words of an id as the code cuts them off, from the end
-module _ (l : List ℕ) (s e p1 p2 p3 : ℕ) (h : s ≤ e) (k : e ≤ length l) (c3 : p3 ≡ s + (e - s - 16)) (c2 : p2 ≡ s + (p3 - s - 16)) (c1 : p1 ≡ s + (p2 - s - 16)) where
-  f1 : part s p3 l ≡ front (part s e l)
-  f1 = part-front l s e p3 h k c3
-
-  f2 : part s p2 l ≡ front (front (part s e l))
-  f2 = part-front l s p3 p2 (omega arith) (omega arith) c2 ∙ ap front f1
-
-  pub cut-a : part s p1 l ≡ front (front (front (part s e l)))
-  cut-a = part-front l s p2 p1 (omega arith) (omega arith) c1 ∙ ap front f2
-
-  pub cut-b : part p1 p2 l ≡ last16 (front (front (part s e l)))
-  cut-b = part-last l s p2 p1 (omega arith) (omega arith) c1 ∙ ap last16 f2
-
-  pub cut-c : part p2 p3 l ≡ last16 (front (part s e l))
-  cut-c = part-last l s p3 p2 (omega arith) (omega arith) c2 ∙ ap last16 f1
-
-  pub cut-d : part p3 e l ≡ last16 (part s e l)
-  cut-d = part-last l s e p3 h k c3
-
-  -- the digits of each
-  pub cut-digits : is_digits 16 (part s e l) ≡ true → (is_digits 16 (part s p1 l) ≡ true) × (is_digits 16 (part p1 p2 l) ≡ true) × (is_digits 16 (part p2 p3 l) ≡ true) × (is_digits 16 (part p3 e l) ≡ true)
-  cut-digits d =
-      let x = front-digits _ (digits_of 16 _ d) in
-      let y = front-digits _ x.0 in
-      let z = front-digits _ y.0 in
-      (ap (is_digits 16) cut-a ∙ digits-yes 16 _ z.0, ap (is_digits 16) cut-b ∙ digits-yes 16 _ z.1, ap (is_digits 16) cut-c ∙ digits-yes 16 _ y.1, ap (is_digits 16) cut-d ∙ digits-yes 16 _ x.1)
-
-  pub cut-id : (a b c d : ℕ) → a ≡ number 16 (part s p1 l) → b ≡ number 16 (part p1 p2 l) → c ≡ number 16 (part p2 p3 l) → d ≡ number 16 (part p3 e l)
-      → ◌≡◌ {A = Id} (record { a = a; b = b; c = c; d = d }) (id_of_digits (part s e l))
-  unfolding id_of_digits
-  cut-id a b c d p q r t =
-      let a-is = p ∙ ap (number 16) cut-a in
-      let b-is = q ∙ ap (number 16) cut-b in
-      let c-is = r ∙ ap (number 16) cut-c in
-      let d-is = t ∙ ap (number 16) cut-d in
-      λ i. record { a = a-is i; b = b-is i; c = c-is i; d = d-is i }
-
 -- the id that is read is the number of its digits, whatever stands before the last 64
 pub id-number : (s : List ℕ) → id_number (id_of_digits s) ≡ number 16 s
 unfolding id_number id_of_digits
@@ -351,25 +311,25 @@ id-words s h d =
 
 -- what the three tests of the reader make of an id
 module _ (s : List ℕ) where
-  pub id-yes : 0 < length s → length s ≤ 64 → is_digits 16 s ≡ true → id_read s ≡ Of (id_of_digits s)
+  pub id-yes : 0 < length s → length s ≤ 64 → is_digits 16 s ≡ true → id_read s ≡ Some (id_of_digits s)
   unfolding id_read is_hex
   id-yes h k d =
-      ap₂ (λ (t u : Bool). pick (pick t (pick u (is_digits 16 s) false) false) (Of (id_of_digits s)) NoId) (lt-ltb 0 (length s) h) (le-leb (length s) 64 k)
-      ∙ ap (λ (t : Bool). pick t (Of (id_of_digits s)) NoId) d
+      ap₂ (λ (t u : Bool). pick (pick t (pick u (is_digits 16 s) false) false) (Some (id_of_digits s)) None) (lt-ltb 0 (length s) h) (le-leb (length s) 64 k)
+      ∙ ap (λ (t : Bool). pick t (Some (id_of_digits s)) None) d
 
-  pub id-none : length s ≡ 0 → id_read s ≡ NoId
+  pub id-none : length s ≡ 0 → id_read s ≡ None
   unfolding id_read is_hex
-  id-none h = ap (λ (t : Bool). pick (pick t (pick (leb (length s) 64) (is_digits 16 s) false) false) (Of (id_of_digits s)) NoId) (le-ltb 0 (length s) (omega arith))
+  id-none h = ap (λ (t : Bool). pick (pick t (pick (leb (length s) 64) (is_digits 16 s) false) false) (Some (id_of_digits s)) None) (le-ltb 0 (length s) (omega arith))
 
-  pub id-long : 64 < length s → id_read s ≡ NoId
+  pub id-long : 64 < length s → id_read s ≡ None
   unfolding id_read is_hex
-  id-long h = ap₂ (λ (t u : Bool). pick (pick t (pick u (is_digits 16 s) false) false) (Of (id_of_digits s)) NoId) (lt-ltb 0 (length s) (omega arith)) (lt-leb (length s) 64 h)
+  id-long h = ap₂ (λ (t u : Bool). pick (pick t (pick u (is_digits 16 s) false) false) (Some (id_of_digits s)) None) (lt-ltb 0 (length s) (omega arith)) (lt-leb (length s) 64 h)
 
-  pub id_other : 0 < length s → length s ≤ 64 → is_digits 16 s ≡ false → id_read s ≡ NoId
+  pub id_other : 0 < length s → length s ≤ 64 → is_digits 16 s ≡ false → id_read s ≡ None
   unfolding id_read is_hex
   id_other h k d =
-      ap₂ (λ (t u : Bool). pick (pick t (pick u (is_digits 16 s) false) false) (Of (id_of_digits s)) NoId) (lt-ltb 0 (length s) h) (le-leb (length s) 64 k)
-      ∙ ap (λ (t : Bool). pick t (Of (id_of_digits s)) NoId) d
+      ap₂ (λ (t u : Bool). pick (pick t (pick u (is_digits 16 s) false) false) (Some (id_of_digits s)) None) (lt-ltb 0 (length s) h) (le-leb (length s) 64 k)
+      ∙ ap (λ (t : Bool). pick t (Some (id_of_digits s)) None) d
 
 -- what the test says, and the same with a zero in front
 pub hex-in : (s : List ℕ) → is_hex s ≡ true → (0 < length s) × (length s ≤ 64) × (is_digits 16 s ≡ true)
@@ -385,28 +345,66 @@ pub zero-hex : (s : List ℕ) → is_hex s ≡ true → length s < 64 → is_hex
 unfolding is_hex is_digits digit_of
 zero-hex s h l = ap₂ (λ (t u : Bool). pick t (pick u (is_digits 16 s) false) false) (lt-ltb 0 (suc (length s)) (omega arith)) (le-leb (suc (length s)) 64 (omega arith)) ∙ (hex-in s h).2
 
--- the number of at most 16 digits
-pub sixteen-is : (s : List ℕ) (r : Number) (v : ℕ) → length s ≤ 16 → is_digits 16 s ≡ true → Numeral 16 18446744073709551615 s r → r ≡ Value v → v ≡ number 16 s
+-- the reader of at most 16 digits finds their number, if they are digits
+sixteen-no : (s : List ℕ) → length s ≤ 16 → Numeral 16 18446744073709551615 s None → is_digits 16 s ≡ false
 unfolding Numeral
-sixteen-is s r v h d n e = (subst (λ (z : Number). Numeral 16 18446744073709551615 s z) e n).1
+sixteen-no s h n = by_bool (is_digits 16 s) (λ e. let d = digits_of 16 s e in absurd (n d (omega (arith, sixteen-lt s d h)))) (λ e. e)
 
-pub sixteen-no : (s : List ℕ) (r : Number) → length s ≤ 16 → is_digits 16 s ≡ true → Numeral 16 18446744073709551615 s r → r ≡ NoNumber → ⊥
-unfolding Numeral
-sixteen-no s r h d n e =
-    let x = digits_of 16 s d in
-    subst (λ (z : Number). Numeral 16 18446744073709551615 s z) e n x (omega (arith, sixteen-lt s x h))
+-- the digits of an id as the code cuts them: f is what stands before d, g before c, and a before b
+module _ (s d f c g a b : List ℕ) (some : 0 < length s) (few : length s ≤ 64) (f-is : f ≡ front s) (d-is : d ≡ last16 s) (g-is : g ≡ front f) (c-is : c ≡ last16 f) (a-is : a ≡ front g) (b-is : b ≡ last16 g) where
+  all-of : is_digits 16 s ≡ true → Digits 16 a × Digits 16 b × Digits 16 c × Digits 16 d
+  all-of e =
+      let x = front-digits s (digits_of 16 s e) in
+      let y = front-digits f (subst (λ (z : List ℕ). Digits 16 z) (sym f-is) x.0) in
+      let z = front-digits g (subst (λ (z : List ℕ). Digits 16 z) (sym g-is) y.0) in
+      (subst (λ (u : List ℕ). Digits 16 u) (sym a-is) z.0, subst (λ (u : List ℕ). Digits 16 u) (sym b-is) z.1, subst (λ (u : List ℕ). Digits 16 u) (sym c-is) y.1, subst (λ (u : List ℕ). Digits 16 u) (sym d-is) x.1)
+
+  long-a : length a ≤ 16
+  long-a = omega (arith, ap length a-is, front_length g, ap length g-is, front_length f, ap length f-is, front_length s)
+
+  long-b : length b ≤ 16
+  long-b = omega (arith, ap length b-is, last-length g)
+
+  long-c : length c ≤ 16
+  long-c = omega (arith, ap length c-is, last-length f)
+
+  long-d : length d ≤ 16
+  long-d = omega (arith, ap length d-is, last-length s)
+
+  -- a part that is no number is none of digits, and then there is no id
+  no-id : (t : List ℕ) → length t ≤ 16 → (is_digits 16 s ≡ true → Digits 16 t) → Numeral 16 18446744073709551615 t None → None ≡ id_read s
+  no-id t h digits n =
+      sym (id_other s some few (by_bool (is_digits 16 s) (λ e. true-false (digits-yes 16 t (digits e)) (sixteen-no t h n)) (λ e. e)))
+
+  pub cut-no-a : Numeral 16 18446744073709551615 a None → None ≡ id_read s
+  cut-no-a n = no-id a long-a (λ e. (all-of e).0) n
+
+  pub cut-no-b : Numeral 16 18446744073709551615 b None → None ≡ id_read s
+  cut-no-b n = no-id b long-b (λ e. (all-of e).1) n
+
+  pub cut-no-c : Numeral 16 18446744073709551615 c None → None ≡ id_read s
+  cut-no-c n = no-id c long-c (λ e. (all-of e).2) n
+
+  pub cut-no-d : Numeral 16 18446744073709551615 d None → None ≡ id_read s
+  cut-no-d n = no-id d long-d (λ e. (all-of e).3) n
+
+  pub cut-id : (n m k l : ℕ) → Numeral 16 18446744073709551615 a (Some n) → Numeral 16 18446744073709551615 b (Some m) → Numeral 16 18446744073709551615 c (Some k)
+      → Numeral 16 18446744073709551615 d (Some l) → Some (record { a = n; b = m; c = k; d = l }) ≡ id_read s
+  unfolding Numeral id_of_digits
+  cut-id n m k l p q r t =
+      let fg : front f ≡ front (front s) = ap front f-is in
+      let a-of : n ≡ number 16 (front (front (front s))) = p.1 ∙ ap (number 16) (a-is ∙ ap front (g-is ∙ fg)) in
+      let b-of : m ≡ number 16 (last16 (front (front s))) = q.1 ∙ ap (number 16) (b-is ∙ ap last16 (g-is ∙ fg)) in
+      let c-of : k ≡ number 16 (last16 (front s)) = r.1 ∙ ap (number 16) (c-is ∙ ap last16 f-is) in
+      let d-of : l ≡ number 16 (last16 s) = t.1 ∙ ap (number 16) d-is in
+      let all : Digits 16 s =
+      join s (subst (λ (z : List ℕ). Digits 16 z) f-is (join f (subst (λ (z : List ℕ). Digits 16 z) g-is (join g (subst (λ (z : List ℕ). Digits 16 z) a-is p.0) (subst (λ (z : List ℕ). Digits 16 z) b-is q.0))) (subst (λ (z : List ℕ). Digits 16 z) c-is r.0))) (subst (λ (z : List ℕ). Digits 16 z) d-is t.0) in
+      ap Some (λ i. record { a = a-of i; b = b-of i; c = c-of i; d = d-of i }) ∙ sym (id-yes s some few (digits-yes 16 s all))
+    where
+      join : (u : List ℕ) → Digits 16 (front u) → Digits 16 (last16 u) → Digits 16 u
+      join u x y = subst (λ (z : List ℕ). Digits 16 z) (front-last u) (digits_append 16 (front u) (last16 u) x y)
 
 -- ---- printing
-
-within-yes : (a z c : ℕ) → a ≤ c → c ≤ z → within a z c ≡ true
-within-yes a z c h k = ap₂ (λ (x y : Bool). pick x y false) (le-leb a c h) (le-leb c z k)
-
-within-no : (a z c : ℕ) → z < c → within a z c ≡ false
-within-no a z c h = ap (λ (y : Bool). pick (leb a c) y false) (lt-leb c z h) ∙ any (leb a c)
-  where
-    any : (b : Bool) → pick b false false ≡ false
-    any true = refl
-    any false = refl
 
 pub byte_low : (d : ℕ) → d < 10 → digit_byte d ≡ 48 + d
 unfolding digit_byte
@@ -502,19 +500,10 @@ pow-down b v (suc (suc n)) h big lt =
     (omega arith, subst (λ (z : ℕ). v / b < b ^ z) (sym e) ((div-lt_iff_lt-mul {k = b} (omega arith)).1 (subst (λ (z : ℕ). v < z) (pow-suc b (suc n)) lt)))
 
 -- reading what was printed gives the number back
-pub back : (b v limit : ℕ) (t : List ℕ) (r : Number) → Shows b v t → v ≤ limit → Numeral b limit t r → r ≡ Value v
+pub back : (b v limit : ℕ) (t : List ℕ) (r : Option ℕ) → Shows b v t → v ≤ limit → Numeral b limit t r → r ≡ Some v
 unfolding Numeral
-back b v limit t (Value w) s h n = ap Value (n.1 ∙ s.value)
-back b v limit t NoNumber s h n = absurd (n s.digits (omega (arith, s.value)))
-
--- what stands where it was printed
-pub printed-part : (b v width at : ℕ) (x y : List ℕ) (r : ℕ) → at + width ≤ length x → (p : Printed b v width at x y r) → part at r y ≡ p.text
-printed-part b v width at x y r room p =
-    let n : r - at ≡ length p.text = omega (arith, p.ends) in
-    let m : length (take at x) ≡ at = length-take-le at x (omega arith) in
-    ap₂ (λ (k : ℕ) (z : List ℕ). take k (drop at z)) n p.wrote
-    ∙ ap (λ (z : List ℕ). take (length p.text) z) (drop_at (take at x) (p.text ++ drop (at + length p.text) x) at m)
-    ∙ take_at p.text (drop (at + length p.text) x) (length p.text) refl
+back b v limit t (Some w) s h n = ap Some (n.1 ∙ s.value)
+back b v limit t None s h n = absurd (n s.digits (omega (arith, s.value)))
 
 -- ---- ids printed
 
@@ -767,10 +756,10 @@ prints-id x at y z r p = subst (λ (n : ℕ). Prints (id_text n) at y z r) (upto
 
 -- ---- THEOREM: reading what was printed gives it back
 
-pub number-back : (v : ℕ) → v < 2 ^ 64 → decimal 18446744073709551615 (decimal_text v) ≡ Value v
+pub number-back : (v : ℕ) → v < 2 ^ 64 → decimal 18446744073709551615 (decimal_text v) ≡ Some v
 number-back v h =
     let s = shows-numeral 10 20 v (omega arith) (omega arith) (omega arith) (omega arith) in
-    decimal-yes 18446744073709551615 (decimal_text v) s.some s.digits (omega (arith, s.value)) ∙ ap Value s.value
+    decimal-yes 18446744073709551615 (decimal_text v) s.some s.digits (omega (arith, s.value)) ∙ ap Some s.value
 
 join-below : (p w q : ℕ) → p < q → w < 2 ^ 64 → joined p w < q * 2 ^ 64
 unfolding joined
@@ -795,12 +784,12 @@ id_same x y wx wy e =
     let b = joined-inj _ _ _ _ wx.1 wy.1 c.0 in
     λ i. record { a = b.0 i; b = b.1 i; c = c.1 i; d = d.1 i }
 
-pub id-back : (x : Id) → Words x → id_read (id_text (id_number x)) ≡ Of x
+pub id-back : (x : Id) → Words x → id_read (id_text (id_number x)) ≡ Some x
 id-back x w =
     let s = shows-numeral 16 64 (id_number x) (omega arith) (omega arith) (omega arith) (id_below x w) in
     let l = length-numeral 16 64 (id_number x) in
     id-yes (id_text (id_number x)) s.some l (digits-yes 16 _ s.digits)
-    ∙ ap Of (id_same (id_of_digits (id_text (id_number x))) x (id-words _ l s.digits) w (id-number (id_text (id_number x)) ∙ s.value))
+    ∙ ap Some (id_same (id_of_digits (id_text (id_number x))) x (id-words _ l s.digits) w (id-number (id_text (id_number x)) ∙ s.value))
 
 -- ---- THEOREM: leading zeros and the case of digits change nothing
 
@@ -811,8 +800,8 @@ zero_more b s = let z : 0 * b + 0 ≡ 0 = omega arith in ap (λ (n : ℕ). more 
 pub decimal-zero : (limit : ℕ) (s : List ℕ) → 0 < length s → decimal limit (48 ∷ s) ≡ decimal limit s
 unfolding decimal is_digits digit_of
 decimal-zero limit s h =
-    ap₂ (λ (t : Bool) (n : ℕ). pick t (pick (is_digits 10 s) (pick (leb n limit) (Value n) NoNumber) NoNumber) NoNumber) (lt-ltb 0 (suc (length s)) (omega arith)) (zero_more 10 s)
-    ∙ sym (ap (λ (t : Bool). pick t (pick (is_digits 10 s) (pick (leb (number 10 s) limit) (Value (number 10 s)) NoNumber) NoNumber) NoNumber) (lt-ltb 0 (length s) h))
+    ap₂ (λ (t : Bool) (n : ℕ). pick t (pick (is_digits 10 s) (pick (leb n limit) (Some n) None) None) None) (lt-ltb 0 (suc (length s)) (omega arith)) (zero_more 10 s)
+    ∙ sym (ap (λ (t : Bool). pick t (pick (is_digits 10 s) (pick (leb (number 10 s) limit) (Some (number 10 s)) None) None) None) (lt-ltb 0 (length s) h))
 
 -- the same digits in another case
 unfoldable pub Alike : List ℕ → List ℕ → Type 0
@@ -838,8 +827,8 @@ alike-more n (c ∷ s) t e = ap (λ (k : ℕ). more 16 (n * 16 + k) s) e.3 ∙ a
 pub id-spelling : (s t : List ℕ) → is_hex s ≡ true → is_hex t ≡ true → number 16 s ≡ number 16 t → id_read s ≡ id_read t
 unfolding id_read
 id-spelling s t h k e =
-    ap (λ (b : Bool). pick b (Of (id_of_digits s)) NoId) h ∙ ap Of (id_same (id_of_digits s) (id_of_digits t) (hex-words s h) (hex-words t k) (id-number s ∙ e ∙ sym (id-number t)))
-    ∙ sym (ap (λ (b : Bool). pick b (Of (id_of_digits t)) NoId) k)
+    ap (λ (b : Bool). pick b (Some (id_of_digits s)) None) h ∙ ap Some (id_same (id_of_digits s) (id_of_digits t) (hex-words s h) (hex-words t k) (id-number s ∙ e ∙ sym (id-number t)))
+    ∙ sym (ap (λ (b : Bool). pick b (Some (id_of_digits t)) None) k)
   where
     hex-words : (s : List ℕ) → is_hex s ≡ true → Words (id_of_digits s)
     hex-words s h = let d = hex-in s h in id-words s d.1 (digits_of 16 s d.2)

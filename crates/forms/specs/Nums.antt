@@ -1,13 +1,9 @@
 -- Numbers in text. Document 01: "Numbers are decimal unless called hexadecimal"; "number beyond its field" is unreadable; "Ids are padded on the
 -- left. Ids are 1 to 64 hexadecimal digits of either case, printed in lower case, leading zeros dropped, 0 for zero."
-use Rattle.std.specs.Prelude.{ℕ, zero, suc, ◌+◌, ◌-◌, ◌*◌, ◌/◌, ◌%◌, ◌^◌, ◌<◌, ◌≤◌, ◌≡◌, refl, Bool, true, false, List, [], ◌∷◌, ◌++◌, length, get_or, take, drop, leb, ltb}
+use Rattle.std.specs.Prelude.{ℕ, zero, suc, ◌+◌, ◌-◌, ◌*◌, ◌/◌, ◌%◌, ◌^◌, ◌<◌, ◌≤◌, ◌≡◌, refl, Bool, true, false, List, [], ◌∷◌, ◌++◌, length, get_or, take, drop, leb, ltb, Option, Some, None}
 use Rattle.words.specs.Lists.{pick}
 use Rattle.words.specs.declared.ids.Id.{Id}
 use Rattle.forms.specs.Text.{within}
-use Rattle.forms.specs.declared.nums.Number.{Number}
-use Rattle.forms.specs.declared.nums.Number.TheVariants.{Value, NoNumber}
-use Rattle.forms.specs.declared.nums.IdRead.{IdRead}
-use Rattle.forms.specs.declared.nums.IdRead.TheVariants.{Of, NoId}
 
 -- what a byte stands for as a digit: 0-9, a-f, A-F; 99 for a byte that is none
 unfoldable pub digit_of : ℕ → ℕ
@@ -28,8 +24,8 @@ abbrev pub number : ℕ → List ℕ → ℕ
 number b s = more b 0 s
 
 -- a decimal number of at most `limit`, which has a digit
-unfoldable pub decimal : ℕ → List ℕ → Number
-decimal limit s = pick (ltb 0 (length s)) (pick (is_digits 10 s) (pick (leb (number 10 s) limit) (Value (number 10 s)) NoNumber) NoNumber) NoNumber
+unfoldable pub decimal : ℕ → List ℕ → Option ℕ
+decimal limit s = pick (ltb 0 (length s)) (pick (is_digits 10 s) (pick (leb (number 10 s) limit) (Some (number 10 s)) None) None) None
 
 -- the number p with one word of 64 bits more behind it, and the number of an id's four words. (`id_of` of crate words, whose body is shut there.)
 unfoldable pub joined : ℕ → ℕ → ℕ
@@ -59,8 +55,8 @@ id_of_digits s =
       d = number 16 (last16 s);
     }
 
-unfoldable pub id_read : List ℕ → IdRead
-id_read s = pick (is_hex s) (Of (id_of_digits s)) NoId
+unfoldable pub id_read : List ℕ → Option Id
+id_read s = pick (is_hex s) (Some (id_of_digits s)) None
 
 -- ---- printing
 
@@ -90,11 +86,11 @@ pub record Prints (t : List ℕ) (at : ℕ) (x y : List ℕ) (r : ℕ) : Type 0 
   pub wrote : y ≡ over at t x
 
 -- on the edges: "007", 2^32−1 against its own limit and one less, no digit, a byte that is none; an id in upper case; 0; a1
-decimal-edges : (decimal 9 (48 ∷ 48 ∷ 55 ∷ []) ≡ Value 7) × (decimal 12 (49 ∷ 50 ∷ []) ≡ Value 12) × (decimal 11 (49 ∷ 50 ∷ []) ≡ NoNumber) × (decimal 9 [] ≡ NoNumber) × (decimal 99 (49 ∷ 97 ∷ []) ≡ NoNumber)
+decimal-edges : (decimal 9 (48 ∷ 48 ∷ 55 ∷ []) ≡ Some 7) × (decimal 12 (49 ∷ 50 ∷ []) ≡ Some 12) × (decimal 11 (49 ∷ 50 ∷ []) ≡ None) × (decimal 9 [] ≡ None) × (decimal 99 (49 ∷ 97 ∷ []) ≡ None)
 unfolding decimal is_digits more digit_of
 decimal-edges = (refl, refl, refl, refl, refl)
 
-id-edges : (id_read (65 ∷ 98 ∷ []) ≡ Of (record { a = 0; b = 0; c = 0; d = 171 })) × (id_text 0 ≡ 48 ∷ []) × (id_text 161 ≡ 97 ∷ 49 ∷ []) × (decimal_text 120 ≡ 49 ∷ 50 ∷ 48 ∷ [])
+id-edges : (id_read (65 ∷ 98 ∷ []) ≡ Some (record { a = 0; b = 0; c = 0; d = 171 })) × (id_text 0 ≡ 48 ∷ []) × (id_text 161 ≡ 97 ∷ 49 ∷ []) × (decimal_text 120 ≡ 49 ∷ 50 ∷ 48 ∷ [])
 unfolding id_read is_hex is_digits more digit_of id_of_digits numeral digit_byte
 id-edges = (refl, refl, refl, refl)
 
@@ -105,15 +101,20 @@ unfoldable pub Digits : ℕ → List ℕ → Type 0
 Digits b [] = Unit {0}
 Digits b (c ∷ s) = (digit_of c < b) × Digits b s
 
+-- the digit of base 16 that a byte stands for
+unfoldable pub IsDigit : ℕ → Option ℕ → Type 0
+IsDigit c (Some d) = (d ≡ digit_of c) × (d < 16)
+IsDigit c None = 16 ≤ digit_of c
+
 -- the answer of the reader in any base
-unfoldable pub Numeral : ℕ → ℕ → List ℕ → Number → Type 0
-Numeral b limit s (Value v) = Digits b s × (v ≡ number b s) × (v ≤ limit)
-Numeral b limit s NoNumber = Digits b s → number b s ≤ limit → ⊥
+unfoldable pub Numeral : ℕ → ℕ → List ℕ → Option ℕ → Type 0
+Numeral b limit s (Some v) = Digits b s × (v ≡ number b s) × (v ≤ limit)
+Numeral b limit s None = Digits b s → number b s ≤ limit → ⊥
 
 -- one digit more, below a limit
-unfoldable pub Stepped : ℕ → ℕ → Number → Type 0
-Stepped limit n (Value v) = (v ≡ n) × (n ≤ limit)
-Stepped limit n NoNumber = limit < n
+unfoldable pub Stepped : ℕ → ℕ → Option ℕ → Type 0
+Stepped limit n (Some v) = (v ≡ n) × (n ≤ limit)
+Stepped limit n None = limit < n
 
 -- no digit is in upper case
 unfoldable pub Lower : List ℕ → Type 0

@@ -1,14 +1,10 @@
 -- Readable lines. Document 01: "one bracket form a line (at most 4,096 bytes; a list holds words and further lists, at most 8 deep, the form itself
 -- counted)"; "Members are parted by at least one space; more may stand outside words." What a line says, its members, stands apart from its spelling.
-use Rattle.std.specs.Prelude.{ℕ, suc, ◌-◌, ◌<◌, ◌≤◌, ◌≡◌, refl, Bool, true, false, List, [], ◌∷◌, ◌++◌, length, replicate, get_or, take, drop, leb, eqb}
+use Rattle.std.specs.Prelude.{ℕ, suc, ◌<◌, ◌≤◌, ◌≡◌, refl, Bool, true, false, List, [], ◌∷◌, ◌++◌, length, replicate, leb, eqb, Option, Some, None}
 use Rattle.words.specs.Lists.{pick}
 use Rattle.forms.specs.declared.text.Member.{Member}
-use Rattle.forms.specs.declared.text.Member.TheVariants.{Word, Open, Close, Bad}
+use Rattle.forms.specs.declared.text.Member.TheVariants.{Word, Open, Close}
 use Rattle.std.proofs.Common.{arith}
-use Rattle.forms.specs.declared.text.Span.{Span}
-use Rattle.forms.specs.declared.text.Span.TheVariants.{Is, Isnt}
-use Rattle.forms.specs.declared.text.Past.{Past}
-use Rattle.forms.specs.declared.text.Past.TheVariants.{At, Not}
 
 -- what a list says: its members, words and further lists, whatever spaces part them
 pub data Members : Type 0 where
@@ -71,58 +67,78 @@ unfoldable pub run : (ℕ → Bool) → List ℕ → ℕ
 run p [] = 0
 run p (x ∷ s) = pick (p x) (suc (run p s)) 0
 
--- from a up to e
-abbrev pub part : ℕ → ℕ → List ℕ → List ℕ
-part a e l = take (e - a) (drop a l)
+-- ---- what the reader finds at a place, of which s is left: for later readers, which take a list apart member by member
 
--- what the reader finds at a place: for later readers, which take a list apart member by member
-unfoldable pub Next : List ℕ → ℕ → Bool → Member → Type 0
-Next l at g (Close e) = (at < e) × (e ≤ length l) × (k : ℕ) × (drop at l ≡ spaces k ++ (41 ∷ drop e l))
-Next l at g (Open a) = (at ≤ a) × (a < length l) × (k : ℕ) × (drop at l ≡ spaces k ++ drop a l) × Gap g k × (get_or l a 0 ≡ 40)
-Next l at g (Word a e) =
-    (at ≤ a) × (a < e) × (e ≤ length l) × (k : ℕ) × (drop at l ≡ spaces k ++ (part a e l ++ drop e l)) × Gap g k × IsWord (part a e l) × Stops is_word (drop e l)
-Next l at g Bad = (d : ℕ) (m : Members) (t : List ℕ) → Reads d g (drop at l) m t → ⊥
+-- behind the closing bracket t is left
+abbrev pub NextClose : List ℕ → List ℕ → Type 0
+NextClose s t = (k : ℕ) × (s ≡ spaces k ++ (41 ∷ t))
+
+-- f is what is left from an opening bracket on, and v behind it
+abbrev pub NextList : List ℕ → Bool → List ℕ → List ℕ → Type 0
+NextList s g f v = (k : ℕ) × (s ≡ spaces k ++ f) × (f ≡ 40 ∷ v) × Gap g k
+
+-- behind the word w, which is whole, t is left
+abbrev pub NextWord : List ℕ → Bool → List ℕ → List ℕ → Type 0
+NextWord s g w t = (k : ℕ) × (s ≡ spaces k ++ (w ++ t)) × Gap g k × IsWord w × Stops is_word t
+
+-- no members can be read
+abbrev pub NextNone : List ℕ → Bool → Type 0
+NextNone s g = (d : ℕ) (m : Members) (t : List ℕ) → Reads d g s m t → ⊥
+
+unfoldable pub Next : List ℕ → Bool → Option Member → Type 0
+Next s g (Some (Close t)) = NextClose s t.now
+Next s g (Some (Open f v)) = NextList s g f.now v.now
+Next s g (Some (Word w t)) = NextWord s g w.now t.now
+Next s g None = NextNone s g
 
 -- some members can be read from s on, and t is left
-abbrev pub Some : ℕ → Bool → List ℕ → List ℕ → Type 0
-Some d g s t = (m : Members) × Reads d g s m t
+abbrev pub SomeMembers : ℕ → Bool → List ℕ → List ℕ → Type 0
+SomeMembers d g s t = (m : Members) × Reads d g s m t
 
 -- a form: an opening bracket, and the members one level down
 unfoldable pub SomeForm : ℕ → List ℕ → List ℕ → Type 0
-SomeForm d s t = (e : ℕ) × (v : List ℕ) × (d ≡ suc e) × (s ≡ 40 ∷ v) × Some e true v t
+SomeForm d s t = (e : ℕ) × (v : List ℕ) × (d ≡ suc e) × (s ≡ 40 ∷ v) × SomeMembers e true v t
 
-unfoldable pub Inside : List ℕ → ℕ → ℕ → Past → Type 0
-Inside l at d (At e) = (at < e) × (e ≤ length l) × Some d true (drop at l) (drop e l)
-Inside l at d Not = (t : List ℕ) → Some d true (drop at l) t → ⊥
+abbrev pub NoMembers : ℕ → Bool → List ℕ → Type 0
+NoMembers d g s = (t : List ℕ) → SomeMembers d g s t → ⊥
 
-unfoldable pub Form : List ℕ → ℕ → ℕ → Past → Type 0
-Form l at d (At e) = (at < e) × (e ≤ length l) × SomeForm d (drop at l) (drop e l)
-Form l at d Not = (t : List ℕ) → SomeForm d (drop at l) t → ⊥
+abbrev pub NoForm : ℕ → List ℕ → Type 0
+NoForm d s = (t : List ℕ) → SomeForm d s t → ⊥
 
--- the answer of the line's reader, both ways: a place from which the members of the line's form are read on, or no form at all
-unfoldable pub Opened : List ℕ → Past → Type 0
-Opened s (At a) = (m : Members) × (t : List ℕ) × (a ≤ length s) × Line m s × Reads 7 true (drop a s) m t
-Opened s Not = (m : Members) → Line m s → ⊥
+-- r is what is left of s behind one byte or more
+abbrev pub Behind : List ℕ → List ℕ → Type 0
+Behind s r = (p : List ℕ) × (s ≡ p ++ r) × (0 < length p)
 
--- ---- what a reader of one kind of form goes by: for whatever members stand here, at the depth d
+-- the answer of the line's reader, both ways: what is left where the members of the line's form are read on, or no form at all
+unfoldable pub Opened : List ℕ → List ℕ → Type 0
+Opened s a = (m : Members) × (t : List ℕ) × Line m s × Reads 7 true a m t × Behind s a
 
-unfoldable pub WordHere : List ℕ → ℕ → Bool → ℕ → Span → Type 0
-WordHere l at g d (Is a e) =
-    (at ≤ a) × (a < e) × (e ≤ length l) × ((m : Members) (t : List ℕ) → Reads d g (drop at l) m t → (n : Members) × (m ≡ word (part a e l) n) × Reads d false (drop e l) n t)
-WordHere l at g d Isnt = (m : Members) (t : List ℕ) → Reads d g (drop at l) m t → (w : List ℕ) (n : Members) → m ≡ word w n → ⊥
+abbrev pub NoLine : List ℕ → Type 0
+NoLine s = (m : Members) → Line m s → ⊥
 
--- a is the place past the opening bracket of a list, and e the place past the list
-unfoldable pub ListHere : List ℕ → ℕ → Bool → ℕ → Span → Type 0
-ListHere l at g d (Is a e) =
-    (at < a) × (a ≤ e) × (e ≤ length l)
-    × ((m : Members) (t : List ℕ) → Reads d g (drop at l) m t
-    → (i : Members) × (n : Members) × (h : ℕ) × (m ≡ sub i n) × (d ≡ suc h) × Reads h true (drop a l) i (drop e l) × Reads d false (drop e l) n t)
-ListHere l at g d Isnt = (m : Members) (t : List ℕ) → Reads d g (drop at l) m t → (i n : Members) → m ≡ sub i n → ⊥
+-- ---- what a reader of one kind of form goes by: for whatever members stand here
 
-pub record EndHere (l : List ℕ) (at : ℕ) (g : Bool) (r : Bool) : Type 0 where
-  pub inside : r ≡ true → at < length l
-  pub is : r ≡ true → (d : ℕ) (m : Members) (t : List ℕ) → Reads d g (drop at l) m t → m ≡ none
-  pub not : r ≡ false → (d : ℕ) (m : Members) (t : List ℕ) → Reads d g (drop at l) m t → m ≡ none → ⊥
+-- the word w stands next, and r is left
+unfoldable pub WordHere : List ℕ → Bool → List ℕ → List ℕ → Type 0
+WordHere s g w r =
+    NextWord s g w r × ((d : ℕ) (m : Members) (t : List ℕ) → Reads d g s m t → (n : Members) × (m ≡ word w n) × Reads d false r n t)
+
+unfoldable pub NoWord : List ℕ → Bool → Type 0
+NoWord s g = (d : ℕ) (m : Members) (t : List ℕ) → Reads d g s m t → (w : List ℕ) (n : Members) → m ≡ word w n → ⊥
+
+-- at the depth d a list stands next: v is left behind its opening bracket, and r behind the list
+unfoldable pub ListHere : List ℕ → Bool → ℕ → List ℕ → List ℕ → Type 0
+ListHere s g d v r =
+    (k : ℕ) × (s ≡ spaces k ++ (40 ∷ v)) × Behind v r
+    × ((m : Members) (t : List ℕ) → Reads d g s m t → (i : Members) × (n : Members) × (h : ℕ) × (m ≡ sub i n) × (d ≡ suc h) × Reads h true v i r × Reads d false r n t)
+
+unfoldable pub NoList : List ℕ → Bool → ℕ → Type 0
+NoList s g d = (m : Members) (t : List ℕ) → Reads d g s m t → (i n : Members) → m ≡ sub i n → ⊥
+
+pub record EndHere (s : List ℕ) (g : Bool) (r : Bool) : Type 0 where
+  pub inside : r ≡ true → 0 < length s
+  pub is : r ≡ true → (d : ℕ) (m : Members) (t : List ℕ) → Reads d g s m t → m ≡ none
+  pub not : r ≡ false → (d : ℕ) (m : Members) (t : List ℕ) → Reads d g s m t → m ≡ none → ⊥
 
 -- on an edge: "( a () )" spells a word and an empty list
 edge-spelled : Line (word (97 ∷ []) (sub none none)) (40 ∷ 32 ∷ 97 ∷ 32 ∷ 40 ∷ 41 ∷ 32 ∷ 41 ∷ [])

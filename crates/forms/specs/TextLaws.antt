@@ -1,19 +1,18 @@
 -- Laws of readable lines: a spelling has one reading (`once`), and what the reader's tests say of it.
-use Rattle.std.specs.Prelude.{ℕ, zero, suc, ◌+◌, ◌-◌, ◌<◌, ◌≤◌, ◌≡◌, Bool, get_or, take}
+use Rattle.std.specs.Prelude.{ℕ, zero, suc, ◌+◌, ◌-◌, ◌<◌, ◌≤◌, ◌≡◌, Bool, take, cond, not, position, MatchOption, Option, Some, None, unwrap_or, ltb, eqb}
 use Rattle.std.proofs.Math.Path.{refl, sym, ap, ap₂, subst}
-use Rattle.std.proofs.Common.{◌∙◌, length-drop, drop_of_length-le, take-append-drop, drop-drop, length-take-le, drop_at, add-one, eqb-true, ne_eqb}
+use Rattle.std.proofs.Common.{◌∙◌, length-drop, take-append-drop, length-take-le, eqb-true, ne_eqb, leb-true, le-leb, ltb-false}
 use Rattle.std.proofs.Math.Bool.{true, false}
 use mathlib.Core.List.{List, [], ◌∷◌, ◌++◌, append_assoc, append-nil}
 use native.Mathlib.Omega.{arith}
-use Rattle.std.proofs.Math.ListN.{length, drop}
-use Rattle.std.proofs.lemmas.List.{length-replicate}
-use Rattle.std.proofs.Math.Seq.{drop-cons, drop-length}
+use Rattle.std.proofs.Math.ListN.{length, drop, length-append}
+use Rattle.std.specs.List.{position_or_len}
+use Rattle.std.proofs.lemmas.List.Recursion.{is_position_or_len}
+use Rattle.std.proofs.lemmas.List.{length-replicate, take_all}
+use Rattle.std.proofs.Math.Dec.{leb}
 use Rattle.words.specs.Lists.{pick}
-use Rattle.forms.specs.Text.{part, within, Members, none, word, sub, is_word, is_space, All, Stops, IsWord, spaces, Gap, Spells, Line, Reads, run, Next, Form, SomeForm, Some, Inside, Opened, WordHere, ListHere, EndHere}
-use Rattle.forms.specs.declared.text.Member.TheVariants.{Word, Open, Close, Bad}
-use Rattle.forms.specs.declared.text.Span.TheVariants.{Is, Isnt}
-use Rattle.forms.specs.declared.text.Past.{Past}
-use Rattle.forms.specs.declared.text.Past.TheVariants.{At, Not}
+use Rattle.forms.specs.declared.text.Member.{Member}
+use Rattle.forms.specs.Text.{within, Members, none, word, sub, is_word, is_space, All, Stops, IsWord, spaces, Gap, Spells, Line, Reads, run, Next, NextClose, NextList, NextWord, NextNone, SomeForm, SomeMembers, Behind, NoMembers, NoForm, Opened, NoLine, WordHere, NoWord, ListHere, NoList, EndHere}
 
 pub true-false : {A : Type 0} {b : Bool} → b ≡ true → b ≡ false → A
 true-false e f = absurd (let z : ◌≡◌ {A = Bool} true false = sym e ∙ f in let y : ◌≡◌ {A = ℕ} 0 1 = cc in omega arith)
@@ -250,24 +249,19 @@ line-once l m n p q =
     let u = reads_of 7 true n q.2 (spaces q.1) q.5 in
     (once 7 true (p.2 ++ spaces p.1) m n (spaces p.1) (spaces q.1) r (subst (λ (z : List ℕ). Reads 7 true z n (spaces q.1)) (sym (tails e.1)) u)).0
 
--- ---- runs at places of a line
-
-module _ (p : ℕ → Bool) (l : List ℕ) (i : ℕ) where
-  pub run_step : i < length l → p (get_or l i 0) ≡ true → i + 1 + run p (drop (i + 1) l) ≡ i + run p (drop i l)
-  run_step h e = rw (drop-cons l i 0 h, run-yes p (get_or l i 0) (drop (suc i) l) e, add-one i) (omega arith)
-
-  pub run-stop : i < length l → p (get_or l i 0) ≡ false → i + run p (drop i l) ≡ i
-  unfolding Stops
-  run-stop h e = rw (drop-cons l i 0 h) (omega (arith, run-no p (get_or l i 0 ∷ drop (suc i) l) e))
-
-  pub run_end : length l ≤ i → i + run p (drop i l) ≡ i
-  unfolding Stops
-  run_end h = rw (drop_of_length-le l {i = i} h) (omega (arith, run-no p [] tt))
-
-  pub run_in : i ≤ length l → i + run p (drop i l) ≤ length l
-  run_in h = omega (arith, run-le p (drop i l), length-drop i l)
-
 -- ---- what the code's tests say
+
+pub if-none : {A : Type 0} {P : Type 0} (Q : A → Type 0) (o : Option A) → o ≡ None → P → MatchOption o P Q
+if-none {A} {P} Q o e p = subst (λ (z : Option A). MatchOption z P Q) (sym e) p
+
+pub empty : (s : List ℕ) (b : Bool) → b ≡ eqb (length s) 0 → b ≡ true → length s ≡ 0
+empty s b e t = eqb-true (length s) 0 (sym e ∙ t)
+
+pub not-empty : (s : List ℕ) (b : Bool) → b ≡ eqb (length s) 0 → b ≡ false → length s ≡ 0 → ⊥
+not-empty s b e f z = true-false (e ∙ ap (λ (n : ℕ). eqb n 0) z) f
+
+pub next-is : (s : List ℕ) (g : Bool) (m n : Member) → m ≡ n → Next s g (Some m) → Next s g (Some n)
+next-is s g m n e x = subst (λ (z : Member). Next s g (Some z)) e x
 
 pub gap-true : (g : Bool) (k : ℕ) → g ≡ true → Gap g k
 unfolding Gap
@@ -285,21 +279,50 @@ gap-pos true k e h = true-false refl e
 gap-pos false k e h = h
 
 module _ (c : ℕ) where
-  pub word-1 : within 48 57 c ≡ true → is_word c ≡ true
-  unfolding is_word
-  word-1 e = ap (λ (b : Bool). pick b true (pick (within 97 122 c) true (within 65 70 c))) e
+  within-no : (a z : ℕ) → (a ≤ c → c ≤ z → ⊥) → within a z c ≡ false
+  within-no a z n = by_bool (leb a c) (λ p. ap (λ (b : Bool). pick b (leb c z) false) p ∙ by_bool (leb c z) (λ q. absurd (n (leb-true a c p) (leb-true c z q))) (λ q. q)) (λ p. ap (λ (b : Bool). pick b (leb c z) false) p)
 
-  pub word-2 : within 97 122 c ≡ true → is_word c ≡ true
-  unfolding is_word
-  word-2 e = ap (λ (b : Bool). pick (within 48 57 c) true (pick b true (within 65 70 c))) e ∙ any (within 48 57 c)
-    where
-      any : (b : Bool) → pick b true true ≡ true
-      any true = refl
-      any false = refl
+  within-yes : (a z : ℕ) → a ≤ c → c ≤ z → within a z c ≡ true
+  within-yes a z p q = ap₂ (λ (x y : Bool). pick x y false) (le-leb a c p) (le-leb c z q)
 
-  pub word-3 : within 48 57 c ≡ false → within 97 122 c ≡ false → is_word c ≡ within 65 70 c
+  pub word-digit : 48 ≤ c → c ≤ 57 → true ≡ is_word c
   unfolding is_word
-  word-3 e f = ap₂ (λ (a b : Bool). pick a true (pick b true (within 65 70 c))) e f
+  word-digit p q = sym (ap (λ (b : Bool). pick b true (pick (within 97 122 c) true (within 65 70 c))) (within-yes 48 57 p q))
+
+  pub word-low : 97 ≤ c → c ≤ 122 → true ≡ is_word c
+  unfolding is_word
+  word-low p q = sym (ap₂ (λ (a b : Bool). pick a true (pick b true (within 65 70 c))) (within-no 48 57 (λ x y. omega arith)) (within-yes 97 122 p q))
+
+  pub word-high : 65 ≤ c → c ≤ 70 → true ≡ is_word c
+  unfolding is_word
+  word-high p q =
+      sym (ap₂ (λ (a b : Bool). pick a true (pick b true (within 65 70 c))) (within-no 48 57 (λ x y. omega arith)) (within-no 97 122 (λ x y. omega arith)) ∙ within-yes 65 70 p q)
+
+  pub no-word : (48 ≤ c → c ≤ 57 → ⊥) → (97 ≤ c → c ≤ 122 → ⊥) → (65 ≤ c → c ≤ 70 → ⊥) → false ≡ is_word c
+  unfolding is_word
+  no-word n m k = sym (ap₂ (λ (a b : Bool). pick a true (pick b true (within 65 70 c))) (within-no 48 57 n) (within-no 97 122 m) ∙ within-no 65 70 k)
+
+-- a run ends where the first byte stands that is none of p
+pub run_position : (p : ℕ → Bool) (s : List ℕ) → run p s ≡ position_or_len (λ c. not (p c)) s
+unfolding run
+run_position p s = is_position_or_len (run p) (λ c. not (p c)) refl (λ c s. go (p c) (run p s)) s
+  where
+    go : (b : Bool) (n : ℕ) → pick b (suc n) 0 ≡ cond (not b) 0 (1 + n)
+    go true n = omega arith
+    go false n = refl
+
+-- where no byte is none of p, all of them are the run
+pub run-len : (p : ℕ → Bool) (s : List ℕ) (o : Option ℕ) (n : ℕ) → o ≡ position (λ c. not (p c)) s → n ≡ unwrap_or o (length s) → n ≡ run p s
+run-len p s o n e q =
+    q ∙ ap (λ (z : Option ℕ). unwrap_or z (length s)) e ∙ go (ltb (position_or_len (λ c. not (p c)) s) (length s)) refl ∙ sym (run_position p s)
+  where
+    go : (b : Bool) → ltb (position_or_len (λ c. not (p c)) s) (length s) ≡ b
+        → unwrap_or (cond b (Some (position_or_len (λ c. not (p c)) s)) None) (length s) ≡ position_or_len (λ c. not (p c)) s
+    go true h = refl
+    go false h = omega (arith, ltb-false (position_or_len (λ c. not (p c)) s) (length s) h, run-le p s, run_position p s)
+
+pub past-run : (p : ℕ → Bool) (s : List ℕ) (n : ℕ) → n ≡ run p s → take (length s - n) (drop n s) ≡ drop (run p s) s
+past-run p s n e = take_all (length s - n) (drop n s) (omega (arith, length-drop n s)) ∙ ap (λ (k : ℕ). drop k s) e
 
 nil-word : (w u : List ℕ) → IsWord w → [] ≡ w ++ u → ⊥
 nil-word [] u x e = absurd (omega arith)
@@ -309,333 +332,255 @@ stops-nil : Stops is_space []
 unfolding Stops
 stops-nil = tt
 
+nil-of : (s : List ℕ) → length s ≡ 0 → s ≡ []
+nil-of [] e = refl
+nil-of (c ∷ s) e = absurd (omega arith)
+
 -- ---- what the spaces leave
 
--- a run of p from a on, up to e
-module _ (p : ℕ → Bool) (l : List ℕ) (a e : ℕ) (h : e ≡ a + run p (drop a l)) where
-  part-eq : part a e l ≡ take (run p (drop a l)) (drop a l)
-  part-eq = let k : e - a ≡ run p (drop a l) = omega arith in ap (λ (n : ℕ). take n (drop a l)) k
+-- r is s behind the spaces in front
+module _ (s r : List ℕ) (h : r ≡ drop (run is_space s) s) where
+  spaces-count : length s - length r ≡ run is_space s
+  spaces-count = omega (arith, ap length h, length-drop (run is_space s) s, run-le is_space s)
 
-  rest_eq : drop (run p (drop a l)) (drop a l) ≡ drop e l
-  rest_eq = drop-drop (run p (drop a l)) a l ∙ ap (λ (n : ℕ). drop n l) (sym h)
-
-  pub part-all : All p (part a e l)
-  part-all = subst (λ (z : List ℕ). All p z) (sym part-eq) (run-split p (drop a l)).0
-
-  pub part-stops : Stops p (drop e l)
-  part-stops = subst (λ (z : List ℕ). Stops p z) rest_eq (run-split p (drop a l)).1
-
-  pub part_join : drop a l ≡ part a e l ++ drop e l
-  part_join = sym (take-append-drop (run p (drop a l)) (drop a l)) ∙ ap₂ ◌++◌ (sym part-eq) rest_eq
-
-  pub part_length : length (part a e l) ≡ e - a
-  part_length = ap length part-eq ∙ length-take-le (run p (drop a l)) (drop a l) (run-le p (drop a l)) ∙ omega arith
-
-module _ (l : List ℕ) (at i : ℕ) (g : Bool) (h : i ≡ at + run is_space (drop at l)) where
-  front : drop at l ≡ spaces (i - at) ++ drop i l
+  pub front : s ≡ spaces (length s - length r) ++ r
   front =
-      part_join is_space l at i h
-      ∙ ap (λ (z : List ℕ). z ++ drop i l) (spaces-all (part at i l) (part-all is_space l at i h) ∙ ap spaces (part_length is_space l at i h))
+      sym (take-append-drop (run is_space s) s)
+      ∙ ap₂ ◌++◌
+      (spaces-all (take (run is_space s) s) (run-split is_space s).0 ∙ ap spaces (length-take-le (run is_space s) s (run-le is_space s) ∙ sym spaces-count))
+      (sym h)
 
-  pub is-close : i < length l → get_or l i 0 ≡ 41 → Next l at g (Close (i + 1))
-  unfolding Next
-  is-close lt e =
-      (omega arith, omega arith, i - at, front ∙ ap (λ (z : List ℕ). spaces (i - at) ++ z) (drop-cons l i 0 lt ∙ ap₂ ◌∷◌ e (ap (λ (n : ℕ). drop n l) (sym (add-one i)))))
+  pub front-stops : Stops is_space r
+  front-stops = subst (λ (z : List ℕ). Stops is_space z) (sym h) (run-split is_space s).1
 
-  pub is_open_next : i < length l → Gap g (i - at) → get_or l i 0 ≡ 40 → Next l at g (Open i)
-  unfolding Next
-  is_open_next lt gap e = (omega arith, lt, i - at, front, gap, e)
+  pub front-le : length r ≤ length s
+  front-le = omega (arith, ap length h, length-drop (run is_space s) s)
 
-  pub is_word_next : (e : ℕ) → i < length l → Gap g (i - at) → is_word (get_or l i 0) ≡ true → e ≡ i + run is_word (drop i l) → Next l at g (Word i e)
-  unfolding Next
-  is_word_next e lt gap w r =
-      let long : 0 < run is_word (drop i l) = rw (drop-cons l i 0 lt, run-yes is_word (get_or l i 0) (drop (suc i) l) w) (omega arith) in (
-        omega arith,
-        omega arith,
-        omega (arith, run_in is_word l i (omega arith)),
-        i - at,
-        front ∙ ap (λ (z : List ℕ). spaces (i - at) ++ z) (part_join is_word l i e r),
+module _ (s r : List ℕ) (g : Bool) (h : r ≡ drop (run is_space s) s) (c : ℕ) (t : List ℕ) (first : r ≡ c ∷ t) where
+  pub is-close : c ≡ 41 → NextClose s t
+  is-close e = (length s - length r, front s r h ∙ ap (λ (z : List ℕ). spaces (length s - length r) ++ z) (first ∙ ap (λ (b : ℕ). b ∷ t) e))
+
+  pub is_open_next : Gap g (length s - length r) → c ≡ 40 → NextList s g r t
+  is_open_next gap e = (length s - length r, front s r h, first ∙ ap (λ (b : ℕ). b ∷ t) e, gap)
+
+  pub is_word_next : (w u : List ℕ) → Gap g (length s - length r) → is_word c ≡ true → w ≡ take (run is_word r) r → u ≡ drop (run is_word r) r → NextWord s g w u
+  is_word_next w u gap e p q =
+      let long : 0 < run is_word r = omega (arith, ap (run is_word) first, run-yes is_word c t e) in
+      let split = run-split is_word r in (
+        length s - length r,
+        front s r h ∙ ap (λ (z : List ℕ). spaces (length s - length r) ++ z) (sym (take-append-drop (run is_word r) r) ∙ ap₂ ◌++◌ (sym p) (sym q)),
         gap,
-        (omega (arith, part_length is_word l i e r), part-all is_word l i e r),
-        part-stops is_word l i e r,
+        (omega (arith, ap length p, length-take-le (run is_word r) r (run-le is_word r)), subst (λ (z : List ℕ). All is_word z) (sym p) split.0),
+        subst (λ (z : List ℕ). Stops is_word z) (sym q) split.1,
       )
 
-  is-bad : ((t : List ℕ) → drop i l ≡ 41 ∷ t → ⊥) → (Gap g (i - at) → (w u : List ℕ) → drop i l ≡ w ++ u → IsWord w → ⊥)
-      → (Gap g (i - at) → (v : List ℕ) → drop i l ≡ 40 ∷ v → ⊥) → Next l at g Bad
-  unfolding Next Lead
-  is-bad no-close no_word no-open d m t r =
-      go m (lead d g (i - at) (drop i l) m t (part-stops is_space l at i h) (subst (λ (z : List ℕ). Reads d g z m t) front r))
+module _ (s r : List ℕ) (g : Bool) (h : r ≡ drop (run is_space s) s) where
+  is-bad : ((t : List ℕ) → r ≡ 41 ∷ t → ⊥) → (Gap g (length s - length r) → (w u : List ℕ) → r ≡ w ++ u → IsWord w → ⊥)
+      → (Gap g (length s - length r) → (v : List ℕ) → r ≡ 40 ∷ v → ⊥) → NextNone s g
+  unfolding Lead
+  is-bad no-close no_word no-open d m t x =
+      go m (lead d g (length s - length r) r m t (front-stops s r h) (subst (λ (z : List ℕ). Reads d g z m t) (front s r h) x))
     where
-      go : (m : Members) → Lead d g (i - at) (drop i l) m t → ⊥
+      go : (m : Members) → Lead d g (length s - length r) r m t → ⊥
       go none x = no-close t x
       go (word w n) x = no_word x.2 w x.0 x.1 x.3
       go (sub a n) x = no-open x.4 x.1 x.3
 
-  at_front : {c : ℕ} {t : List ℕ} → i < length l → drop i l ≡ c ∷ t → get_or l i 0 ≡ c
-  at_front lt e = heads (sym (drop-cons l i 0 lt) ∙ e)
+  pub bad-gap : (c : ℕ) (t : List ℕ) → r ≡ c ∷ t → (c ≡ 41 → ⊥) → (Gap g (length s - length r) → ⊥) → NextNone s g
+  bad-gap c t first n41 ngap = is-bad (λ t e. n41 (heads (sym first ∙ e))) (λ x w u e iw. ngap x) (λ x v e. ngap x)
 
-  pub bad-gap : i < length l → (get_or l i 0 ≡ 41 → ⊥) → (Gap g (i - at) → ⊥) → Next l at g Bad
-  bad-gap lt n41 ngap = is-bad (λ t e. n41 (at_front lt e)) (λ x w u e iw. ngap x) (λ x v e. ngap x)
+  pub bad-byte : (c : ℕ) (t : List ℕ) → r ≡ c ∷ t → (c ≡ 41 → ⊥) → (c ≡ 40 → ⊥) → is_word c ≡ false → NextNone s g
+  bad-byte c t first n41 n40 nw =
+      is-bad (λ t e. n41 (heads (sym first ∙ e)))
+      (λ x w u e iw. word-not c t w u nw iw (sym first ∙ e))
+      (λ x v e. n40 (heads (sym first ∙ e)))
 
-  pub bad-byte : i < length l → (get_or l i 0 ≡ 41 → ⊥) → (get_or l i 0 ≡ 40 → ⊥) → is_word (get_or l i 0) ≡ false → Next l at g Bad
-  bad-byte lt n41 n40 nw =
-      is-bad (λ t e. n41 (at_front lt e))
-      (λ x w u e iw. word-not (get_or l i 0) (drop (suc i) l) w u nw iw (sym (drop-cons l i 0 lt) ∙ e))
-      (λ x v e. n40 (at_front lt e))
-
-  pub bad-end : length l ≤ i → Next l at g Bad
-  bad-end le =
-      let n : drop i l ≡ [] = drop_of_length-le l {i = i} le in
+  pub bad-end : length r ≡ 0 → NextNone s g
+  bad-end e =
+      let n : r ≡ [] = nil-of r e in
       is-bad (λ t e. no-nil (sym n ∙ e)) (λ x w u e iw. nil-word w u iw (sym n ∙ e)) (λ x v e. no-nil (sym n ∙ e))
+
+-- ---- less is left
+
+spaced-length : (k : ℕ) (s : List ℕ) → length (spaces k ++ s) ≡ k + length s
+spaced-length k s = length-append (spaces k) s ∙ ap (λ (n : ℕ). n + length s) (length-replicate k 32)
+
+pub reads-less : (d : ℕ) (g : Bool) (s : List ℕ) (m : Members) (t : List ℕ) → Reads d g s m t → length t < length s
+unfolding Reads
+reads-less d g s none t r = omega (arith, ap length r.1, spaced-length r.0 (41 ∷ t))
+reads-less d g s (word w m) t r =
+    omega (arith, ap length r.2, spaced-length r.0 (w ++ r.1), length-append w r.1, reads-less d false r.1 m t r.5)
+reads-less d g s (sub i m) t r =
+    omega (arith, ap length r.4, spaced-length r.0 (40 ∷ r.2), reads-less r.1 true r.2 i r.3 r.7, reads-less d false r.3 m t r.8)
+
+pub form-less : (d : ℕ) (s t : List ℕ) → SomeForm d s t → length t < length s
+unfolding SomeForm
+form-less d s t f = omega (arith, ap length f.3, reads-less f.0 true f.1 f.4.0 t f.4.1)
+
+pub behind-less : (s r : List ℕ) → Behind s r → length r < length s
+behind-less s r b = omega (arith, ap length b.1, length-append b.0 r)
+
+pub reads-behind : (d : ℕ) (g : Bool) (s : List ℕ) (m : Members) (t : List ℕ) → Reads d g s m t → Behind s t
+reads-behind d g s m t r =
+    let q = spells-of d g m s t r in
+    (q.0, q.1, omega (arith, ap length q.1, length-append q.0 t, reads-less d g s m t r))
+
+pub close-less : (s t : List ℕ) → NextClose s t → length t < length s
+close-less s t n = omega (arith, ap length n.1, spaced-length n.0 (41 ∷ t))
+
+pub word-less : (s : List ℕ) (g : Bool) (w t : List ℕ) → NextWord s g w t → length t < length s
+word-less s g w t n = omega (arith, ap length n.1, spaced-length n.0 (w ++ t), length-append w t, n.3.0)
+
+pub open-le : (s : List ℕ) (g : Bool) (f v : List ℕ) → NextList s g f v → length f ≤ length s
+open-le s g f v n = omega (arith, ap length n.1, spaced-length n.0 f)
+
+pub list-less : (s : List ℕ) (g : Bool) (d : ℕ) (f v t : List ℕ) → NextList s g f v → SomeForm d f t → length t < length s
+list-less s g d f v t n x = omega (arith, open-le s g f v n, form-less d f t x)
 
 -- ---- the form reader
 
-pub form-zero : (l : List ℕ) (at d : ℕ) → d ≡ 0 → Form l at d Not
-unfolding Form SomeForm
-form-zero l at d h t f = absurd (omega (arith, f.2))
+pub form-nil : (d : ℕ) (s : List ℕ) → length s ≡ 0 → NoForm d s
+unfolding SomeForm
+form-nil d s e t f = absurd (omega (arith, ap length f.3))
 
-pub form_in : (l : List ℕ) (at d : ℕ) (r : Past) → (d ≡ 0 → ⊥) → at < length l → get_or l at 0 ≡ 40 → Inside l (at + 1) (d - 1) r → Form l at d r
-unfolding Form SomeForm Inside
-form_in l at d (At e) n lt b r =
-    (omega arith, r.1, (d - 1, drop (at + 1) l, omega (arith, n), drop-cons l at 0 lt ∙ ap₂ ◌∷◌ b (ap (λ (n : ℕ). drop n l) (sym (add-one at))), r.2))
-form_in l at d Not n lt b r = λ t f.
-    let e : f.0 ≡ d - 1 = omega (arith, f.2) in
-    let v : f.1 ≡ drop (at + 1) l = tails (sym f.3 ∙ drop-cons l at 0 lt) ∙ ap (λ (n : ℕ). drop n l) (sym (add-one at)) in
-    r t (f.4.0, subst (λ (z : ℕ). Reads z true (drop (at + 1) l) f.4.0 t) e (subst (λ (z : List ℕ). Reads f.0 true z f.4.0 t) v f.4.1))
+module _ (d : ℕ) (s : List ℕ) (c : ℕ) (v : List ℕ) (first : s ≡ c ∷ v) where
+  pub form-other : (c ≡ 40 → ⊥) → NoForm d s
+  unfolding SomeForm
+  form-other n t f = n (heads (sym first ∙ f.3))
 
-pub form-other : (l : List ℕ) (at d : ℕ) → at < length l → (get_or l at 0 ≡ 40 → ⊥) → Form l at d Not
-unfolding Form SomeForm
-form-other l at d lt n t f = n (heads (sym (drop-cons l at 0 lt) ∙ f.3))
+  pub form-zero : d ≡ 0 → NoForm d s
+  unfolding SomeForm
+  form-zero e t f = absurd (omega (arith, f.2))
 
-pub form-end : (l : List ℕ) (at d : ℕ) → length l ≤ at → Form l at d Not
-unfolding Form SomeForm
-form-end l at d h t f = no-nil (sym (drop_of_length-le l {i = at} h) ∙ f.3)
+  pub form_in : c ≡ 40 → (d ≡ 0 → ⊥) → (t : List ℕ) → SomeMembers (d - 1) true v t → SomeForm d s t
+  unfolding SomeForm
+  form_in e n t x = (d - 1, v, omega (arith, n), first ∙ ap (λ (b : ℕ). b ∷ v) e, x)
+
+  pub form-not : NoMembers (d - 1) true v → NoForm d s
+  unfolding SomeForm
+  form-not n t f =
+      let e : f.0 ≡ d - 1 = omega (arith, f.2) in
+      let q : f.1 ≡ v = tails (sym f.3 ∙ first) in
+      n t (f.4.0, subst (λ (z : ℕ). Reads z true v f.4.0 t) e (subst (λ (z : List ℕ). Reads f.0 true z f.4.0 t) q f.4.1))
+
+  -- the list reader's answer, one level down
+  pub form-list : {A : Type 0} (now : A → List ℕ) → c ≡ 40 → (d ≡ 0 → ⊥) → (o : Option A) → MatchOption o (NoMembers (d - 1) true v) (λ t. SomeMembers (d - 1) true v (now t))
+      → MatchOption o (NoForm d s) (λ t. SomeForm d s (now t))
+  form-list now e n None x = form-not x
+  form-list now e n (Some t) x = form_in e n (now t) x
 
 -- ---- the list reader
 
--- reading on from i, where g says whether a member may stand, is reading from at
-pub record Goes (l : List ℕ) (d at i : ℕ) (g : Bool) : Type 0 where
-  pub inside : i ≤ length l
-  pub past : at ≤ i
-  pub ahead : (t : List ℕ) → Some d g (drop i l) t → Some d true (drop at l) t
-  pub back : (t : List ℕ) → Some d true (drop at l) t → Some d g (drop i l) t
+-- of the list whose inside is s, r is left: what can be read from r on, where g says whether a member may stand, can be read from s on
+pub record Goes (d : ℕ) (s r : List ℕ) (g : Bool) : Type 0 where
+  pub ahead : (t : List ℕ) → SomeMembers d g r t → SomeMembers d true s t
+  pub back : (t : List ℕ) → SomeMembers d true s t → SomeMembers d g r t
 
-pub goes-start : (l : List ℕ) (d at : ℕ) → at ≤ length l → Goes l d at at true
-goes-start l d at h = record { inside = h; past = omega arith; ahead = λ t s. s; back = λ t s. s }
+pub goes-start : (d : ℕ) (s : List ℕ) → Goes d s s true
+goes-start d s = record { ahead = λ t x. x; back = λ t x. x }
 
-module _ (l : List ℕ) (d at i : ℕ) (g : Bool) (o : Goes l d at i g) where
-  pub goes-word : (a e : ℕ) → Next l i g (Word a e) → Goes l d at e false
-  unfolding Next Reads
-  goes-word a e n =
+module _ (d : ℕ) (s r : List ℕ) (g : Bool) (o : Goes d s r g) where
+  pub goes-word : (w u : List ℕ) → NextWord r g w u → Goes d s u false
+  unfolding Reads
+  goes-word w u n =
       record {
-        inside = n.2;
-        past = omega arith;
-        ahead = λ t s. o.ahead t (word (part a e l) s.0, (n.3, drop e l, n.4, n.5, n.6, s.1));
-        back = λ t s. let b = o.back t s in
-            let r = word_in d g n.3 (part a e l) (drop e l) b.0 t n.6 n.7 (subst (λ (z : List ℕ). Reads d g z b.0 t) n.4 b.1) in
-            (r.0, r.2);
+        ahead = λ t x. o.ahead t (word w x.0, (n.0, u, n.1, n.2, n.3, x.1));
+        back = λ t x. let b = o.back t x in
+            let q = word_in d g n.0 w u b.0 t n.3 n.4 (subst (λ (z : List ℕ). Reads d g z b.0 t) n.1 b.1) in
+            (q.0, q.2);
       }
 
-  pub goes-list : (a e : ℕ) → Next l i g (Open a) → Form l a d (At e) → Goes l d at e false
-  unfolding Next Reads Form SomeForm
-  goes-list a e n f =
-      let q = f.2 in
-      let eq : drop i l ≡ spaces n.2 ++ (40 ∷ q.1) = n.3 ∙ ap (λ (z : List ℕ). spaces n.2 ++ z) q.3 in
+  opened : (f v : List ℕ) (n : NextList r g f v) → r ≡ spaces n.0 ++ (40 ∷ v)
+  opened f v n = n.1 ∙ ap (λ (z : List ℕ). spaces n.0 ++ z) n.2
+
+  pub goes-list : (f v u : List ℕ) → NextList r g f v → SomeForm d f u → Goes d s u false
+  unfolding Reads SomeForm
+  goes-list f v u n x =
+      let w : x.1 ≡ v = tails (sym x.3 ∙ n.2) in
+      let inner = subst (λ (z : List ℕ). Reads x.0 true z x.4.0 u) w x.4.1 in
       record {
-        inside = f.1;
-        past = omega arith;
-        ahead = λ t s. o.ahead t (sub q.4.0 s.0, (n.2, q.0, q.1, drop e l, eq, n.4, q.2, q.4.1, s.1));
-        back = λ t s. let b = o.back t s in
-            let r = open_in d g n.2 q.1 b.0 t (subst (λ (z : List ℕ). Reads d g z b.0 t) eq b.1) in
-            let same : r.2 ≡ q.0 = sucs (sym r.5 ∙ q.2) in
-            let one = once q.0 true q.1 r.0 q.4.0 r.3 (drop e l) (subst (λ (z : ℕ). Reads z true q.1 r.0 r.3) same r.6) q.4.1 in
-            (r.1, subst (λ (z : List ℕ). Reads d false z r.1 t) one.1 r.7);
+        ahead = λ t y. o.ahead t (sub x.4.0 y.0, (n.0, x.0, v, u, opened f v n, n.3, x.2, inner, y.1));
+        back = λ t y. let b = o.back t y in
+            let q = open_in d g n.0 v b.0 t (subst (λ (z : List ℕ). Reads d g z b.0 t) (opened f v n) b.1) in
+            let same : q.2 ≡ x.0 = sucs (sym q.5 ∙ x.2) in
+            let one = once x.0 true v q.0 x.4.0 q.3 u (subst (λ (z : ℕ). Reads z true v q.0 q.3) same q.6) inner in
+            (q.1, subst (λ (z : List ℕ). Reads d false z q.1 t) one.1 q.7);
       }
 
-  pub ends_close : (e : ℕ) → Next l i g (Close e) → Inside l at d (At e)
-  unfolding Next Reads Inside
-  ends_close e n = (omega arith, n.1, o.ahead (drop e l) (none, (n.2, n.3)))
+  pub ends_close : (t : List ℕ) → NextClose r t → SomeMembers d true s t
+  unfolding Reads
+  ends_close t n = o.ahead t (none, n)
 
-  pub ends-bad : Next l i g Bad → Inside l at d Not
-  unfolding Next Inside
-  ends-bad n t s = let b = o.back t s in n d b.0 t b.1
+  pub ends-bad : NextNone r g → NoMembers d true s
+  ends-bad n t x = let b = o.back t x in n d b.0 t b.1
 
-  pub ends-form : (a : ℕ) → Next l i g (Open a) → Form l a d Not → Inside l at d Not
-  unfolding Next Inside Form SomeForm
-  ends-form a n f t s =
-      let b = o.back t s in
-      let c : drop a l ≡ 40 ∷ drop (suc a) l = drop-cons l a 0 n.1 ∙ ap (λ (z : ℕ). z ∷ drop (suc a) l) n.5 in
-      let eq : drop i l ≡ spaces n.2 ++ (40 ∷ drop (suc a) l) = n.3 ∙ ap (λ (z : List ℕ). spaces n.2 ++ z) c in
-      let r = open_in d g n.2 (drop (suc a) l) b.0 t (subst (λ (z : List ℕ). Reads d g z b.0 t) eq b.1) in
-      f r.3 (r.2, drop (suc a) l, r.5, c, (r.0, r.6))
-
-  pub ends-end : length l ≤ i → Inside l at d Not
-  unfolding Inside Lead
-  ends-end h t s =
-      let b = o.back t s in
-      reads-nil b.0 (subst (λ (z : List ℕ). Reads d g z b.0 t) (drop_of_length-le l {i = i} h) b.1)
-    where
-      reads-nil : (m : Members) → Reads d g [] m t → ⊥
-      reads-nil m r = go m (lead d g 0 [] m t stops-nil r)
-        where
-          go : (m : Members) → Lead d g 0 [] m t → ⊥
-          go none x = no-nil x
-          go (word w n) x = nil-word w x.0 x.3 x.1
-          go (sub j n) x = no-nil x.3
-
-  pub open-inside : (a : ℕ) → Next l i g (Open a) → a ≤ length l
-  unfolding Next
-  open-inside a n = omega (arith, n.1)
-
-  pub less-word : (a e : ℕ) → Next l i g (Word a e) → i < length l → length l - e < length l - i
-  unfolding Next
-  less-word a e n lt = omega arith
-
-  pub less-list : (a e : ℕ) → Next l i g (Open a) → Form l a d (At e) → i < length l → length l - e < length l - i
-  unfolding Next Form
-  less-list a e n f lt = omega arith
+  pub ends-form : (f v : List ℕ) → NextList r g f v → NoForm d f → NoMembers d true s
+  unfolding SomeForm
+  ends-form f v n x t y =
+      let b = o.back t y in
+      let q = open_in d g n.0 v b.0 t (subst (λ (z : List ℕ). Reads d g z b.0 t) (opened f v n) b.1) in
+      x q.3 (q.2, v, q.5, n.2, (q.0, q.6))
 
 -- ---- the line
 
-line-parts : (l : List ℕ) (m : Members) → Line m l → (a b : ℕ) × (l ≡ spaces a ++ drop a l) × (SomeForm 8 (drop a l) (spaces b)) × (length l ≤ 4096)
-unfolding Line SomeForm
-line-parts l m h =
-    let d : drop h.0 l ≡ 40 ∷ (h.2 ++ spaces h.1) =
-    ap (λ (z : List ℕ). drop h.0 z) h.3 ∙ drop_at (spaces h.0) (40 ∷ (h.2 ++ spaces h.1)) h.0 (length-replicate h.0 32) in
-    (h.0, h.1, h.3 ∙ ap (λ (z : List ℕ). spaces h.0 ++ z) (sym d), (7, h.2 ++ spaces h.1, refl, d, (m, reads_of 7 true m h.2 (spaces h.1) h.5)), h.4)
+-- r is the line s behind the spaces in front
+module _ (s r : List ℕ) (h : r ≡ drop (run is_space s) s) where
+  -- a form's line has it there, and nothing but spaces behind it
+  line-form : (m : Members) → Line m s → (b : ℕ) × SomeForm 8 r (spaces b)
+  unfolding SomeForm Line
+  line-form m p =
+      let e = split-once is_space (spaces p.0) (spaces (length s - length r)) (all-spaces p.0) (all-spaces (length s - length r)) (s40 (p.2 ++ spaces p.1)) (front-stops s r h)
+      (sym p.3 ∙ front s r h) in
+      (p.1, (7, p.2 ++ spaces p.1, refl, sym e.1, (m, reads_of 7 true m p.2 (spaces p.1) p.5)))
 
-all_end : (l : List ℕ) (e : ℕ) → length l ≡ e + run is_space (drop e l) → drop e l ≡ spaces (length l - e)
-all_end l e h =
-    part_join is_space l e (length l) h
-    ∙ ap (λ (z : List ℕ). part e (length l) l ++ z) (drop-length l)
-    ∙ append-nil (part e (length l) l)
-    ∙ spaces-all (part e (length l) l) (part-all is_space l e (length l) h)
-    ∙ ap spaces (part_length is_space l e (length l) h)
+  pub line-none : NoForm 8 r → NoLine s
+  line-none n m p = let f = line-form m p in n (spaces f.0) f.1
 
-module _ (l : List ℕ) (i : ℕ) (h : i ≡ 0 + run is_space (drop 0 l)) where
-  -- where a form begins is where the spaces end
-  starts : (m : Members) (p : Line m l) → (line-parts l m p).0 ≡ i
-  unfolding SomeForm Stops
-  starts m p =
-      let q = line-parts l m p in
-      let f = q.3 in
-      let s = split-once is_space (spaces q.0) (spaces (i - 0)) (all-spaces q.0) (all-spaces (i - 0)) (subst (λ (z : List ℕ). Stops is_space z) (sym f.3) refl) (part-stops is_space l 0 i h)
-      (sym q.2 ∙ front l 0 i true h) in
-      let n : q.0 ≡ i - 0 = spaces-inj q.0 (i - 0) s.0 in omega arith
+  -- t is left behind the form, and u behind the spaces that follow
+  module _ (t u : List ℕ) (f : SomeForm 8 r t) (k : u ≡ drop (run is_space t) t) where
+    pub line-tail : (length u ≡ 0 → ⊥) → NoLine s
+    unfolding SomeForm
+    line-tail n m p =
+        let g = line-form m p in
+        let v : g.1.1 ≡ f.1 = tails (sym g.1.3 ∙ f.3) in
+        let e : g.1.0 ≡ f.0 = sucs (sym g.1.2 ∙ f.2) in
+        let o = once f.0 true f.1 g.1.4.0 f.4.0 (spaces g.0) t
+        (subst (λ (z : ℕ). Reads z true f.1 g.1.4.0 (spaces g.0)) e (subst (λ (z : List ℕ). Reads g.1.0 true z g.1.4.0 (spaces g.0)) v g.1.4.1)) f.4.1 in
+        let q = split-once is_space (spaces g.0) (spaces (length t - length u)) (all-spaces g.0) (all-spaces (length t - length u)) stops-nil (front-stops t u k)
+        (append-nil (spaces g.0) ∙ o.1 ∙ front t u k) in
+        n (sym (ap length q.1))
 
-  form-at : (m : Members) (p : Line m l) → SomeForm 8 (drop i l) (spaces (line-parts l m p).1)
-  form-at m p = subst (λ (n : ℕ). SomeForm 8 (drop n l) (spaces (line-parts l m p).1)) (starts m p) (line-parts l m p).3
+    pub line_at : length s ≤ 4096 → length u ≡ 0 → (c : ℕ) (a : List ℕ) → r ≡ c ∷ a → Opened s a
+    unfolding SomeForm Opened Line
+    line_at small e c a q =
+        let seven : f.0 ≡ 7 = sucs (sym f.2) in
+        let x : Reads 7 true f.1 f.4.0 t = subst (λ (n : ℕ). Reads n true f.1 f.4.0 t) seven f.4.1 in
+        let y = spells-of 7 true f.4.0 f.1 t x in
+        let j : t ≡ spaces (length t - length u) = front t u k ∙ ap (λ (z : List ℕ). spaces (length t - length u) ++ z) (nil-of u e) ∙ append-nil (spaces (length t - length u)) in
+        let v : f.1 ≡ a = tails (sym f.3 ∙ q) in (
+          f.4.0,
+          t,
+          (
+            length s - length r,
+            length t - length u,
+            y.0,
+            front s r h ∙ ap (λ (z : List ℕ). spaces (length s - length r) ++ z) (f.3 ∙ ap (λ (z : List ℕ). 40 ∷ z) (y.1 ∙ ap (λ (z : List ℕ). y.0 ++ z) j)),
+            small,
+            y.2,
+          ),
+          subst (λ (z : List ℕ). Reads 7 true z f.4.0 t) v x,
+          (
+            spaces (length s - length r) ++ (c ∷ []),
+            front s r h ∙ ap (λ (z : List ℕ). spaces (length s - length r) ++ z) q ∙ sym (append_assoc (spaces (length s - length r)) (c ∷ []) a),
+            omega (arith, length-append (spaces (length s - length r)) (c ∷ [])),
+          ),
+        )
 
-  pub line-none : Form l i 8 Not → Opened l Not
-  unfolding Form Opened
-  line-none f m p = f (spaces (line-parts l m p).1) (form-at m p)
-
-  pub line_at : (e : ℕ) → length l ≤ 4096 → Form l i 8 (At e) → length l ≡ e + run is_space (drop e l) → Opened l (At (i + 1))
-  unfolding Form SomeForm Opened Line
-  line_at e small f j =
-      let q = f.2 in
-      let lt : i < length l = omega arith in
-      let d : q.1 ≡ drop (i + 1) l = tails (sym q.3 ∙ drop-cons l i 0 lt) ∙ ap (λ (n : ℕ). drop n l) (sym (add-one i)) in
-      let seven : q.0 ≡ 7 = sucs (sym q.2) in
-      let r : Reads 7 true q.1 q.4.0 (drop e l) = subst (λ (n : ℕ). Reads n true q.1 q.4.0 (drop e l)) seven q.4.1 in
-      let s = spells-of 7 true q.4.0 q.1 (drop e l) r in (
-        q.4.0,
-        drop e l,
-        omega arith,
-        (
-          i - 0,
-          length l - e,
-          s.0,
-          front l 0 i true h ∙ ap (λ (z : List ℕ). spaces (i - 0) ++ z) (q.3 ∙ ap (λ (z : List ℕ). 40 ∷ z) (s.1 ∙ ap (λ (z : List ℕ). s.0 ++ z) (all_end l e j))),
-          small,
-          s.2,
-        ),
-        subst (λ (z : List ℕ). Reads 7 true z q.4.0 (drop e l)) d r,
-      )
-
-  pub line-tail : (e j : ℕ) → Form l i 8 (At e) → j ≡ e + run is_space (drop e l) → (j ≡ length l → ⊥) → Opened l Not
-  unfolding Form SomeForm Opened
-  line-tail e j f r n m p =
-      let q = f.2 in
-      let g = form-at m p in
-      let b = (line-parts l m p).1 in
-      let v : g.1 ≡ q.1 = tails (sym g.3 ∙ q.3) in
-      let k : g.0 ≡ q.0 = sucs (sym g.2 ∙ q.2) in
-      let o = once q.0 true q.1 g.4.0 q.4.0 (spaces b) (drop e l)
-      (subst (λ (z : ℕ). Reads z true q.1 g.4.0 (spaces b)) k (subst (λ (z : List ℕ). Reads g.0 true z g.4.0 (spaces b)) v g.4.1)) q.4.1 in
-      let s = split-once is_space (spaces b) (part e j l) (all-spaces b) (part-all is_space l e j r) stops-nil (part-stops is_space l e j r)
-      (append-nil (spaces b) ∙ o.1 ∙ part_join is_space l e j r) in
-      let z : length l - j ≡ 0 = sym (length-drop j l) ∙ ap length (sym s.1) in
-      let in-l = run_in is_space l e f.1 in
-      n (omega arith)
-
-pub line-long : (l : List ℕ) → 4096 < length l → Opened l Not
-unfolding Opened
-line-long l big m p = absurd (let q = line-parts l m p in omega (arith, q.4))
-
-pub form-inside : (l : List ℕ) (at d e : ℕ) → Form l at d (At e) → e ≤ length l
-unfolding Form
-form-inside l at d e f = f.1
-
-pub form-past : (l : List ℕ) (at d e : ℕ) → Form l at d (At e) → at < e
-unfolding Form
-form-past l at d e f = f.0
-
-open-from : (l : List ℕ) (at : ℕ) (g : Bool) (a : ℕ) → Next l at g (Open a) → at ≤ a
-unfolding Next
-open-from l at g a n = n.0
-
-pub open-lt : (l : List ℕ) (at : ℕ) (g : Bool) (a : ℕ) → Next l at g (Open a) → a < length l
-unfolding Next
-open-lt l at g a n = n.1
-
-open-byte : (l : List ℕ) (at : ℕ) (g : Bool) (a : ℕ) → Next l at g (Open a) → get_or l a 0 ≡ 40
-unfolding Next
-open-byte l at g a n = n.5
+pub line-long : (s : List ℕ) → 4096 < length s → NoLine s
+unfolding Line
+line-long s big m p = absurd (omega (arith, p.4))
 
 -- ---- for readers of forms: what `next` found is what the members are
-
-module _ (l : List ℕ) (at d : ℕ) (g : Bool) (m : Members) (t : List ℕ) (r : Reads d g (drop at l) m t) where
-  pub next_word : (a e : ℕ) → Next l at g (Word a e) → (n : Members) × (m ≡ word (part a e l) n) × Reads d false (drop e l) n t
-  unfolding Next
-  next_word a e n = word_in d g n.3 (part a e l) (drop e l) m t n.6 n.7 (subst (λ (z : List ℕ). Reads d g z m t) n.4 r)
-
-  pub next-open : (a : ℕ) → Next l at g (Open a)
-      → (i : Members) × (n : Members) × (e : ℕ) × (u : List ℕ) × (m ≡ sub i n) × (d ≡ suc e) × Reads e true (drop (a + 1) l) i u × Reads d false u n t
-  unfolding Next
-  next-open a n =
-      let c : drop a l ≡ 40 ∷ drop (a + 1) l = drop-cons l a 0 n.1 ∙ ap₂ ◌∷◌ n.5 (ap (λ (z : ℕ). drop z l) (sym (add-one a))) in
-      open_in d g n.2 (drop (a + 1) l) m t (subst (λ (z : List ℕ). Reads d g z m t) (n.3 ∙ ap (λ (z : List ℕ). spaces n.2 ++ z) c) r)
-
-  -- and the form reader finds the place past the list
-  pub next_past : (a e : ℕ) → Next l at g (Open a) → Form l a d (At e)
-      → (i : Members) × (n : Members) × (h : ℕ) × (m ≡ sub i n) × (d ≡ suc h) × Reads h true (drop (a + 1) l) i (drop e l) × Reads d false (drop e l) n t
-  unfolding Form SomeForm
-  next_past a e n f =
-      let o = next-open a n in
-      let q = f.2 in
-      let v : q.1 ≡ drop (a + 1) l = tails (sym q.3 ∙ drop-cons l a 0 (open-lt l at g a n)) ∙ ap (λ (z : ℕ). drop z l) (sym (add-one a)) in
-      let k : q.0 ≡ o.2 = sucs (sym q.2 ∙ o.5) in
-      let s = once o.2 true (drop (a + 1) l) o.0 q.4.0 o.3 (drop e l) o.6
-      (subst (λ (z : ℕ). Reads z true (drop (a + 1) l) q.4.0 (drop e l)) k (subst (λ (z : List ℕ). Reads q.0 true z q.4.0 (drop e l)) v q.4.1)) in
-      (o.0, o.1, o.2, o.4, o.5, subst (λ (z : List ℕ). Reads o.2 true (drop (a + 1) l) o.0 z) s.1 o.6, subst (λ (z : List ℕ). Reads d false z o.1 t) s.1 o.7)
-
-  pub next-close : (e : ℕ) → Next l at g (Close e) → m ≡ none
-  unfolding Next
-  next-close e n = (close-in d g n.2 (drop e l) m t (subst (λ (z : List ℕ). Reads d g z m t) n.3 r)).0
-
-  pub next-bad : Next l at g Bad → ⊥
-  unfolding Next
-  next-bad n = n d m t r
-
--- the places that `next` gives are in the line
-pub word_lt : (l : List ℕ) (at : ℕ) (g : Bool) (a e : ℕ) → Next l at g (Word a e) → (at ≤ a) × (a < e) × (e ≤ length l)
-unfolding Next
-word_lt l at g a e n = (n.0, n.1, n.2)
-
-close-lt : (l : List ℕ) (at : ℕ) (g : Bool) (e : ℕ) → Next l at g (Close e) → at < length l
-unfolding Next
-close-lt l at g e n = omega (arith, n.0, n.1)
 
 kind : Members → ℕ
 kind none = 0
@@ -645,69 +590,79 @@ kind (sub i m) = 2
 apart : {A : Type 0} {m n k : Members} → m ≡ n → m ≡ k → (kind n ≡ kind k → ⊥) → A
 apart p q h = absurd (h (sym (ap kind p) ∙ ap kind q))
 
-module _ (l : List ℕ) (at : ℕ) (g : Bool) (d : ℕ) where
-  pub here-word : (a e : ℕ) → Next l at g (Word a e) → WordHere l at g d (Is a e)
+module _ (s : List ℕ) (g : Bool) where
+  next_word : (w t : List ℕ) → NextWord s g w t → (d : ℕ) (m : Members) (u : List ℕ) → Reads d g s m u → (n : Members) × (m ≡ word w n) × Reads d false t n u
+  next_word w t n d m u r = word_in d g n.0 w t m u n.3 n.4 (subst (λ (z : List ℕ). Reads d g z m u) n.1 r)
+
+  next-open : (f v : List ℕ) → NextList s g f v → (d : ℕ) (m : Members) (u : List ℕ) → Reads d g s m u
+      → (i : Members) × (k : Members) × (e : ℕ) × (t : List ℕ) × (m ≡ sub i k) × (d ≡ suc e) × Reads e true v i t × Reads d false t k u
+  next-open f v n d m u r =
+      open_in d g n.0 v m u (subst (λ (z : List ℕ). Reads d g z m u) (n.1 ∙ ap (λ (z : List ℕ). spaces n.0 ++ z) n.2) r)
+
+  next-close : (t : List ℕ) → NextClose s t → (d : ℕ) (m : Members) (u : List ℕ) → Reads d g s m u → m ≡ none
+  next-close t n d m u r = (close-in d g n.0 t m u (subst (λ (z : List ℕ). Reads d g z m u) n.1 r)).0
+
+  pub here-word : (w t : List ℕ) → NextWord s g w t → WordHere s g w t
   unfolding WordHere
-  here-word a e n = ((word_lt l at g a e n).0, (word_lt l at g a e n).1, (word_lt l at g a e n).2, λ m t r. next_word l at d g m t r a e n)
+  here-word w t n = (n, next_word w t n)
 
-  pub here-list : (a e : ℕ) → Next l at g (Open a) → Form l a d (At e) → ListHere l at g d (Is (a + 1) e)
-  unfolding ListHere
-  here-list a e n f =
-      let i = open-from l at g a n in
-      let j = form-past l a d e f in
-      (omega arith, omega arith, form-inside l a d e f, λ m t r. next_past l at d g m t r a e n f)
+  pub none-no-word : NextNone s g → NoWord s g
+  unfolding NoWord
+  none-no-word n d m t r w k q = n d m t r
 
-  pub close-no-word : (e : ℕ) → Next l at g (Close e) → WordHere l at g d Isnt
-  unfolding WordHere kind
-  close-no-word e n m t r w k q = apart q (next-close l at d g m t r e n) (λ x. omega arith)
+  pub close-no-word : (t : List ℕ) → NextClose s t → NoWord s g
+  unfolding NoWord kind
+  close-no-word t n d m u r w k q = apart q (next-close t n d m u r) (λ x. omega arith)
 
-  pub open-no-word : (a : ℕ) → Next l at g (Open a) → WordHere l at g d Isnt
-  unfolding WordHere kind
-  open-no-word a n m t r w k q = apart q (next-open l at d g m t r a n).4 (λ x. omega arith)
+  pub open-no-word : (f v : List ℕ) → NextList s g f v → NoWord s g
+  unfolding NoWord kind
+  open-no-word f v n d m u r w k q = apart q (next-open f v n d m u r).4 (λ x. omega arith)
 
-  pub bad-no-word : Next l at g Bad → WordHere l at g d Isnt
-  unfolding WordHere
-  bad-no-word n m t r w k q = next-bad l at d g m t r n
+  module _ (d : ℕ) where
+    -- the form reader found what is left behind the list
+    pub here-list : (f v t : List ℕ) → NextList s g f v → SomeForm d f t → ListHere s g d v t
+    unfolding ListHere SomeForm
+    here-list f v t n x =
+        let w : x.1 ≡ v = tails (sym x.3 ∙ n.2) in (
+          n.0,
+          n.1 ∙ ap (λ (z : List ℕ). spaces n.0 ++ z) n.2,
+          subst (λ (z : List ℕ). Behind z t) w (reads-behind x.0 true x.1 x.4.0 t x.4.1),
+          λ m u r.
+              let o = next-open f v n d m u r in
+              let k : x.0 ≡ o.2 = sucs (sym x.2 ∙ o.5) in
+              let e = once o.2 true v o.0 x.4.0 o.3 t o.6
+              (subst (λ (z : ℕ). Reads z true v x.4.0 t) k (subst (λ (z : List ℕ). Reads x.0 true z x.4.0 t) w x.4.1)) in
+              (o.0, o.1, o.2, o.4, o.5, subst (λ (z : List ℕ). Reads o.2 true v o.0 z) e.1 o.6, subst (λ (z : List ℕ). Reads d false z o.1 u) e.1 o.7),
+        )
 
-  pub close-no-list : (e : ℕ) → Next l at g (Close e) → ListHere l at g d Isnt
-  unfolding ListHere kind
-  close-no-list e n m t r i k q = apart q (next-close l at d g m t r e n) (λ x. omega arith)
+    pub none-no-list : NextNone s g → NoList s g d
+    unfolding NoList
+    none-no-list n m t r i k q = n d m t r
 
-  pub word-no-list : (a e : ℕ) → Next l at g (Word a e) → ListHere l at g d Isnt
-  unfolding ListHere kind
-  word-no-list a e n m t r i k q = apart q (next_word l at d g m t r a e n).1 (λ x. omega arith)
+    pub close-no-list : (t : List ℕ) → NextClose s t → NoList s g d
+    unfolding NoList kind
+    close-no-list t n m u r i k q = apart q (next-close t n d m u r) (λ x. omega arith)
 
-  pub bad-no-list : Next l at g Bad → ListHere l at g d Isnt
-  unfolding ListHere
-  bad-no-list n m t r i k q = next-bad l at d g m t r n
+    pub word-no-list : (w t : List ℕ) → NextWord s g w t → NoList s g d
+    unfolding NoList kind
+    word-no-list w t n m u r i k q = apart q (next_word w t n d m u r).1 (λ x. omega arith)
 
-  pub form-no-list : (a : ℕ) → Next l at g (Open a) → Form l a d Not → ListHere l at g d Isnt
-  unfolding ListHere Form SomeForm
-  form-no-list a n f m t r i k q =
-      let o = next-open l at d g m t r a n in
-      f o.3 (o.2, drop (a + 1) l, o.5, drop-cons l a 0 (open-lt l at g a n) ∙ ap₂ ◌∷◌ (open-byte l at g a n) (ap (λ (z : ℕ). drop z l) (sym (add-one a))), (o.0, o.6))
+    pub form-no-list : (f v : List ℕ) → NextList s g f v → NoForm d f → NoList s g d
+    unfolding NoList SomeForm
+    form-no-list f v n x m u r i k q =
+        let o = next-open f v n d m u r in
+        x o.3 (o.2, v, o.5, n.2, (o.0, o.6))
 
-module _ (l : List ℕ) (at : ℕ) (g : Bool) where
-  pub end-close : (e : ℕ) → Next l at g (Close e) → EndHere l at g true
-  end-close e n = record { inside = λ x. close-lt l at g e n; is = λ x d m t r. next-close l at d g m t r e n; not = λ x. true-false refl x }
+  pub end-close : (t : List ℕ) → NextClose s t → EndHere s g true
+  end-close t n = record { inside = λ x. omega (arith, close-less s t n); is = λ x d m u r. next-close t n d m u r; not = λ x. true-false refl x }
 
-  pub end-word : (a e : ℕ) → Next l at g (Word a e) → EndHere l at g false
+  pub end-word : (w t : List ℕ) → NextWord s g w t → EndHere s g false
   unfolding kind
-  end-word a e n = record { inside = λ x. true-false x refl; is = λ x. true-false x refl; not = λ x d m t r q. apart q (next_word l at d g m t r a e n).1 (λ x. omega arith) }
+  end-word w t n = record { inside = λ x. true-false x refl; is = λ x. true-false x refl; not = λ x d m u r q. apart q (next_word w t n d m u r).1 (λ x. omega arith) }
 
-  pub end-open : (a : ℕ) → Next l at g (Open a) → EndHere l at g false
+  pub end-open : (f v : List ℕ) → NextList s g f v → EndHere s g false
   unfolding kind
-  end-open a n = record { inside = λ x. true-false x refl; is = λ x. true-false x refl; not = λ x d m t r q. apart q (next-open l at d g m t r a n).4 (λ x. omega arith) }
+  end-open f v n = record { inside = λ x. true-false x refl; is = λ x. true-false x refl; not = λ x d m u r q. apart q (next-open f v n d m u r).4 (λ x. omega arith) }
 
-  pub end-bad : Next l at g Bad → EndHere l at g false
-  end-bad n = record { inside = λ x. true-false x refl; is = λ x. true-false x refl; not = λ x d m t r q. next-bad l at d g m t r n }
-
--- nothing is read past the end
-pub reads_end : (l : List ℕ) (at d : ℕ) (g : Bool) (m : Members) (t : List ℕ) → length l ≤ at → Reads d g (drop at l) m t → ⊥
-unfolding Lead
-reads_end l at d g m t h r = go m (lead d g 0 [] m t stops-nil (subst (λ (z : List ℕ). Reads d g z m t) (drop_of_length-le l {i = at} h) r))
-  where
-    go : (m : Members) → Lead d g 0 [] m t → ⊥
-    go none x = no-nil x
-    go (word w n) x = nil-word w x.0 x.3 x.1
-    go (sub j n) x = no-nil x.3
+  pub end-none : NextNone s g → EndHere s g false
+  end-none n = record { inside = λ x. true-false x refl; is = λ x. true-false x refl; not = λ x d m u r q. n d m u r }

@@ -1,161 +1,85 @@
 // Numbers and ids in text: read and printed.
-ghost use Rattle.std.specs.Prelude.{◌≡◌, ℕ, ◌+◌, ◌-◌, ◌*◌, ◌^◌, ◌≤◌, ◌<◌, true, false, length, drop};
-ghost use Rattle.forms.specs.Text.{within, part};
-ghost use Rattle.forms.specs.Nums.{digit_of, Numeral, number, is_digits, decimal, id_of_digits, id_read, Stepped, digit_byte, Printed, Padded, Words16, upto, Prints, id_text, decimal_text, id_number};
+ghost use Rattle.std.specs.Prelude.{◌≡◌, ◌+◌, ◌*◌, ◌^◌, ◌≤◌, ◌<◌, length};
+ghost use Rattle.forms.specs.Nums.{IsDigit, Numeral, decimal, front, last16, id_read, Stepped, digit_byte, Printed, Padded, Words16, upto, Prints, id_text, decimal_text, id_number};
 
-use crate::text::within;
 use words::ids::Id;
 
-#[derive(Clone, Copy)]
-pub enum Number {
-    Value(u64),
-    NoNumber,
-}
-
-#[derive(Clone, Copy)]
-pub enum IdRead {
-    Of(Id),
-    NoId,
-}
-
-fn wide(c: u8) -> u64
-    ensures { result ≡ c }
+// The digit of base 16 that a byte stands for.
+fn digit_of(c: u8) -> Option<u64>
+    ensures { IsDigit c result }
 {
-    c as u64
-}
-
-// What a byte stands for as a digit, or 99.
-fn digit_of(c: u8) -> u64
-    ensures { result ≡ digit_of c }
-{
-    if within(48, 57, c) {
-        return wide(c - 48);
+    match c {
+        b'0'..=b'9' => Some((c - b'0') as u64),
+        b'a'..=b'f' => Some((c - b'a') as u64 + 10),
+        b'A'..=b'F' => Some((c - b'A') as u64 + 10),
+        _ => None,
     }
-    if within(97, 102, c) {
-        return wide(c - 87);
-    }
-    if within(65, 70, c) {
-        return wide(c - 55);
-    }
-    99
 }
 
 // One digit more, unless the limit is passed.
-fn step(v: u64, base: u64, d: u64, limit: u64) -> Number
-    requires { 0 < base }
+fn step(v: u64, base: u64, d: u64, limit: u64) -> Option<u64>
     ensures { Stepped limit (v * base + d) result }
 {
-    if limit < d {
-        return Number::NoNumber;
+    let n = v.checked_mul(base)?.checked_add(d)?;
+    if limit < n {
+        return None;
     }
-    if (limit - d) / base < v {
-        return Number::NoNumber;
-    }
-    Number::Value(v * base + d)
+    Some(n)
 }
 
-// The number of the digits from `start` up to `end`, in the base.
-fn read_number(line: &[u8], start: usize, end: usize, base: u64, limit: u64) -> Number
-    requires { (start ≤ end) × (end ≤ length line.now) × (0 < base) }
-    ensures { Numeral base limit (part start end line.now) result }
+// The number of some digits in a base of at most 16.
+fn read_number(digits: &[u8], base: u64, limit: u64) -> Option<u64>
+    requires { (0 < base) × (base ≤ 16) }
+    ensures { Numeral base limit digits.now result }
 {
-    let mut i = start;
     let mut v: u64 = 0;
-    while i < end {
-        let d = digit_of(line[i]);
-        if d >= base {
-            return Number::NoNumber;
+    for c in digits {
+        let d = digit_of(*c)?;
+        if base <= d {
+            return None;
         }
-        match step(v, base, d, limit) {
-            Number::NoNumber => return Number::NoNumber,
-            Number::Value(w) => {
-                v = w;
-                i += 1;
-            }
-        }
+        v = step(v, base, d, limit)?;
     }
-    Number::Value(v)
+    Some(v)
 }
 
 // The decimal number of a word, at most `limit`.
-pub fn read_decimal(line: &[u8], start: usize, end: usize, limit: u64) -> Number
-    requires { (start ≤ end) × (end ≤ length line.now) }
-    ensures { result ≡ decimal limit (part start end line.now) }
+pub fn read_decimal(word: &[u8], limit: u64) -> Option<u64>
+    ensures { result ≡ decimal limit word.now }
 {
-    if start == end {
-        return Number::NoNumber;
+    if word.is_empty() {
+        return None;
     }
-    read_number(line, start, end, 10, limit)
+    read_number(word, 10, limit)
 }
 
-// Whether all bytes from `start` up to `end` are digits of base 16.
-fn all_hex(line: &[u8], start: usize, end: usize) -> bool
-    requires { (start ≤ end) × (end ≤ length line.now) }
-    ensures { result ≡ is_digits 16 (part start end line.now) }
+// The digits but the last 16, and the last 16, or all where there are no more: those of one word of an id.
+fn cut_word(digits: &[u8]) -> (&[u8], &[u8])
+    ensures front { result.0.now ≡ front digits.now }
+    ensures last { result.1.now ≡ last16 digits.now }
 {
-    let mut i = start;
-    while i < end {
-        if digit_of(line[i]) >= 16 {
-            return false;
-        }
-        i += 1;
-    }
-    true
+    digits.split_at(digits.len().saturating_sub(16))
 }
 
-// The number of at most 16 digits of base 16, which fits a word.
-fn value16(line: &[u8], start: usize, end: usize) -> u64
-    requires { (start ≤ end) × (end ≤ length line.now) × (end ≤ start + 16) × (is_digits 16 (part start end line.now) ≡ true) }
-    ensures { result ≡ number 16 (part start end line.now) }
+// The id of a word: 1 to 64 digits of base 16, cut into words from the end.
+pub fn read_id(word: &[u8]) -> Option<Id>
+    ensures { result ≡ id_read word.now }
 {
-    match read_number(line, start, end, 16, 18446744073709551615) {
-        Number::Value(v) => v,
-        Number::NoNumber => 0,
+    if word.is_empty() {
+        return None;
     }
-}
-
-// Where the last 16 digits begin, or all where there are no more.
-fn cut(start: usize, end: usize) -> usize
-    requires { start ≤ end }
-    ensures { result ≡ start + (end - start - 16) }
-{
-    if end - start > 16 {
-        return end - 16;
+    if 64 < word.len() {
+        return None;
     }
-    start
-}
-
-// The id of 1 to 64 digits of base 16, cut into words from the end.
-fn hex_id(line: &[u8], start: usize, end: usize) -> Id
-    requires { (start ≤ end) × (end ≤ length line.now) × (end ≤ start + 64) × (is_digits 16 (part start end line.now) ≡ true) }
-    ensures { result ≡ id_of_digits (part start end line.now) }
-{
-    let p3 = cut(start, end);
-    let p2 = cut(start, p3);
-    let p1 = cut(start, p2);
-    Id {
-        a: value16(line, start, p1),
-        b: value16(line, p1, p2),
-        c: value16(line, p2, p3),
-        d: value16(line, p3, end),
-    }
-}
-
-// The id of a word: 1 to 64 digits of base 16.
-pub fn read_id(line: &[u8], start: usize, end: usize) -> IdRead
-    requires { (start ≤ end) × (end ≤ length line.now) }
-    ensures { result ≡ id_read (part start end line.now) }
-{
-    if start == end {
-        return IdRead::NoId;
-    }
-    if end - start > 64 {
-        return IdRead::NoId;
-    }
-    if all_hex(line, start, end) {
-        return IdRead::Of(hex_id(line, start, end));
-    }
-    IdRead::NoId
+    let (front, d) = cut_word(word);
+    let (front, c) = cut_word(front);
+    let (a, b) = cut_word(front);
+    Some(Id {
+        a: read_number(a, 16, u64::MAX)?,
+        b: read_number(b, 16, u64::MAX)?,
+        c: read_number(c, 16, u64::MAX)?,
+        d: read_number(d, 16, u64::MAX)?,
+    })
 }
 
 // The byte of a digit.
@@ -183,7 +107,8 @@ fn print(out: &mut [u8], at: usize, v: u64, base: u64, width: usize) -> usize
     k + 1
 }
 
-// Prints v from `at` on in exactly `width` digits.
+// Prints v from `at` on in exactly `width` digits. `print` ends where the number does, this one where the width does: one function would test both
+// at each digit.
 fn pad(out: &mut [u8], at: usize, v: u64, base: u64, width: usize) -> usize
     requires { (1 < base) × (base ≤ 16) × (v < base ^ width) × (at + width ≤ length out.old) }
     ensures { Padded base v width at out.old out.new result }
@@ -216,13 +141,11 @@ pub fn print_words(out: &mut [u8], at: usize, words: &[u64]) -> usize
     ensures { Prints (id_text (upto words.now 4)) at out.old out.new result }
 {
     let mut k = at;
-    let mut i = 0;
-    while i < words.len() {
-        k = more_word(out, at < k, k, words[i]);
-        i += 1;
+    for w in words {
+        k = more_word(out, at < k, k, *w);
     }
     if k == at {
-        out[k] = 48;
+        out[k] = b'0';
         return k + 1;
     }
     k
@@ -233,8 +156,7 @@ pub fn print_id(out: &mut [u8], at: usize, x: Id) -> usize
     requires { at + 64 ≤ length out.old }
     ensures { Prints (id_text (id_number x)) at out.old out.new result }
 {
-    let words = [x.a, x.b, x.c, x.d];
-    print_words(out, at, &words)
+    print_words(out, at, &[x.a, x.b, x.c, x.d])
 }
 
 // Prints a number: decimal digits, without leading zeros.

@@ -1,226 +1,163 @@
 // Lines as bracket forms. The form reader and the list reader call each other. No tree is built: a line is read once to see that it is a form, and
-// readers of one kind of form then go through it by `word_here`, `list_here` and `end_here`.
-ghost use Rattle.std.specs.Prelude.{◌≡◌, ℕ, ◌+◌, ◌-◌, ◌≤◌, ◌<◌, true, false, length, drop};
-ghost use Rattle.forms.specs.Text.{within, is_word, is_space, run, Gap, Next, Form, Inside, Opened, WordHere, ListHere, EndHere};
+// readers of one kind of form then go through it by `word`, `inside` and `ends`. Each takes what is left of the line, and gives back what it leaves.
+ghost use Rattle.std.specs.Prelude.{◌≡◌, true, false, MatchOption, drop, position, not};
+ghost use Rattle.forms.specs.Text.{is_word, is_space, run, Gap, Next, SomeForm, NoForm, SomeMembers, NoMembers, Opened, NoLine, WordHere, NoWord, ListHere, NoList, EndHere};
 
-// What stands at a place inside a list.
+// What stands next inside a list.
 #[derive(Clone, Copy)]
-pub enum Member {
-    // a word, from its first byte up to the second number
-    Word(usize, usize),
-    // a list: the place of its opening bracket
-    Open(usize),
-    // the list's closing bracket: the place past it
-    Close(usize),
-    Bad,
+pub enum Member<'a> {
+    // a word, and what is left behind it
+    Word(&'a [u8], &'a [u8]),
+    // a list: what is left from its opening bracket on, and behind that bracket
+    Open(&'a [u8], &'a [u8]),
+    // the list's closing bracket: what is left behind it
+    Close(&'a [u8]),
 }
 
-// The place past what was read, or none.
-#[derive(Clone, Copy)]
-pub enum Past {
-    At(usize),
-    Not,
-}
-
-// Whether c is from a to z.
-pub fn within(a: u8, z: u8, c: u8) -> bool
-    ensures { result ≡ within a z c }
-{
-    if a <= c {
-        return c <= z;
-    }
-    false
-}
-
-fn is_word(c: u8) -> bool
+// A byte of a word.
+pub fn is_word(c: u8) -> bool
     ensures { result ≡ is_word c }
 {
-    if within(48, 57, c) {
-        return true;
-    }
-    if within(97, 122, c) {
-        return true;
-    }
-    within(65, 70, c)
+    matches!(c, b'0'..=b'9' | b'a'..=b'z' | b'A'..=b'F')
 }
 
-// The first place from `at` on that holds no space.
-fn skip(line: &[u8], at: usize) -> usize
-    requires { at ≤ length line.now }
-    ensures { result ≡ at + run is_space (drop at line.now) }
+// The place of the first byte that is no space.
+fn spaces_end(rest: &[u8]) -> Option<usize>
+    ensures { result ≡ position (λ c. not (is_space c)) rest.now }
 {
-    let mut i = at;
-    while i < line.len() {
-        if line[i] != 32 {
-            return i;
-        }
-        i += 1;
-    }
-    i
+    rest.iter().position(|c| *c != b' ')
 }
 
-// The first place from `at` on that holds no byte of a word.
-fn word_end(line: &[u8], at: usize) -> usize
-    requires { at ≤ length line.now }
-    ensures { result ≡ at + run is_word (drop at line.now) }
+// What is left behind the spaces in front.
+fn past_spaces(rest: &[u8]) -> &[u8]
+    ensures { result.now ≡ drop (run is_space rest.now) rest.now }
 {
-    let mut i = at;
-    while i < line.len() {
-        if !is_word(line[i]) {
-            return i;
-        }
-        i += 1;
-    }
-    i
+    let spaces = spaces_end(rest).unwrap_or(rest.len());
+    &rest[spaces..]
 }
 
-// Whether a member may begin `k` spaces on.
-fn parted(gap: bool, k: usize) -> bool
-    ensures yes { result ≡ true → Gap gap k }
-    ensures not { result ≡ false → Gap gap k → ⊥ }
+// The place of the first byte that is no byte of a word.
+fn word_end(rest: &[u8]) -> Option<usize>
+    ensures { result ≡ position (λ c. not (is_word c)) rest.now }
 {
-    if gap {
-        return true;
-    }
-    0 < k
+    rest.iter().position(|c| !is_word(*c))
 }
 
-// What stands at a place inside a list. `gap`: just past the list's opening bracket.
-pub fn next(line: &[u8], at: usize, gap: bool) -> Member
-    requires { at ≤ length line.now }
-    ensures { Next line.now at gap result }
+// How many bytes of a word stand in front.
+fn word_len(rest: &[u8]) -> usize
+    ensures { result ≡ run is_word rest.now }
 {
-    let i = skip(line, at);
-    if i < line.len() {
-        let c = line[i];
-        if c == 41 {
-            return Member::Close(i + 1);
-        }
-        if parted(gap, i - at) {
-            if c == 40 {
-                return Member::Open(i);
-            }
-            if is_word(c) {
-                return Member::Word(i, word_end(line, i));
-            }
-            return Member::Bad;
-        }
-        return Member::Bad;
-    }
-    Member::Bad
+    word_end(rest).unwrap_or(rest.len())
 }
 
-// The form reader: the form whose opening bracket stands at `at`.
+// Whether a member may begin so many spaces on.
+fn parted(gap: bool, spaces: usize) -> bool
+    ensures yes { result ≡ true → Gap gap spaces }
+    ensures not { result ≡ false → Gap gap spaces → ⊥ }
+{
+    gap || 0 < spaces
+}
+
+// What stands next in a list, if it is of a list. `gap`: right behind the list's opening bracket.
+pub fn next(rest: &[u8], gap: bool) -> Option<Member<'_>>
+    ensures { Next rest.now gap result }
+{
+    let here = past_spaces(rest);
+    let (first, behind) = here.split_first()?;
+    if *first == b')' {
+        return Some(Member::Close(behind));
+    }
+    if !parted(gap, rest.len() - here.len()) {
+        return None;
+    }
+    if *first == b'(' {
+        return Some(Member::Open(here, behind));
+    }
+    if is_word(*first) {
+        let (word, behind) = here.split_at(word_len(here));
+        return Some(Member::Word(word, behind));
+    }
+    None
+}
+
+// The form reader: what is left behind the form that begins here.
 #[cycle(form_list)]
-pub fn form(line: &[u8], at: usize, depth: usize) -> Past
-    requires { at ≤ length line.now }
-    ensures { Form line.now at depth result }
+pub fn form(bytes: &[u8], depth: usize) -> Option<&[u8]>
+    ensures { MatchOption result (NoForm depth bytes.now) (λ t. SomeForm depth bytes.now t.now) }
 {
+    let (first, inside) = bytes.split_first()?;
+    if *first != b'(' {
+        return None;
+    }
     if depth == 0 {
-        return Past::Not;
+        return None;
     }
-    if at < line.len() {
-        if line[at] == 40 {
-            return list(line, at + 1, depth - 1);
-        }
-        return Past::Not;
-    }
-    Past::Not
+    list(inside, depth - 1)
 }
 
-// The list reader: what stands past an opening bracket, up to the closing one.
+// The list reader: what is left behind the closing bracket, from behind the opening one.
 #[cycle(form_list)]
-pub fn list(line: &[u8], at: usize, depth: usize) -> Past
-    requires { at ≤ length line.now }
-    ensures { Inside line.now at depth result }
+pub fn list(inside: &[u8], depth: usize) -> Option<&[u8]>
+    ensures { MatchOption result (NoMembers depth true inside.now) (λ t. SomeMembers depth true inside.now t.now) }
 {
-    let mut i = at;
+    let mut rest = inside;
     let mut gap = true;
-    while i < line.len() {
-        match next(line, i, gap) {
-            Member::Close(e) => return Past::At(e),
-            Member::Word(_, e) => {
-                i = e;
-                gap = false;
-            }
-            Member::Open(a) => match form(line, a, depth) {
-                Past::At(e) => {
-                    i = e;
-                    gap = false;
-                }
-                Past::Not => return Past::Not,
-            },
-            Member::Bad => return Past::Not,
+    loop {
+        match next(rest, gap)? {
+            Member::Close(behind) => return Some(behind),
+            Member::Word(_, behind) => rest = behind,
+            Member::Open(here, _) => rest = form(here, depth)?,
         }
+        gap = false;
     }
-    Past::Not
 }
 
-// Whether a line is one form, of at most 4096 bytes and 8 deep: the place past its opening bracket, or none.
-pub fn read_line(line: &[u8]) -> Past
-    ensures { Opened line.now result }
+// What stands behind the opening bracket of a line that is one form, of at most 4096 bytes and 8 deep.
+pub fn read_line(line: &[u8]) -> Option<&[u8]>
+    ensures { MatchOption result (NoLine line.now) (λ a. Opened line.now a.now) }
 {
     if line.len() > 4096 {
-        return Past::Not;
+        return None;
     }
-    let i = skip(line, 0);
-    match form(line, i, 8) {
-        Past::Not => Past::Not,
-        Past::At(e) => {
-            if skip(line, e) == line.len() {
-                Past::At(i + 1)
-            } else {
-                Past::Not
-            }
-        }
+    let here = past_spaces(line);
+    let behind = form(here, 8)?;
+    if !past_spaces(behind).is_empty() {
+        return None;
     }
+    let (_, inside) = here.split_first()?;
+    Some(inside)
 }
 
-// A word's start and end; or a list's inside and the place past it.
-#[derive(Clone, Copy)]
-pub enum Span {
-    Is(usize, usize),
-    Isnt,
-}
-
-// The word that stands next, of the members at the depth.
-pub fn word_here(line: &[u8], at: usize, gap: bool) -> Span
-    requires { at ≤ length line.now }
-    ensures { (d : ℕ) → WordHere line.now at gap d result }
+// The word that stands next, and what is left behind it.
+pub fn word(rest: &[u8], gap: bool) -> Option<(&[u8], &[u8])>
+    ensures { MatchOption result (NoWord rest.now gap) (λ p. WordHere rest.now gap p.0.now p.1.now) }
 {
-    match next(line, at, gap) {
-        Member::Word(a, e) => Span::Is(a, e),
-        Member::Open(_) => Span::Isnt,
-        Member::Close(_) => Span::Isnt,
-        Member::Bad => Span::Isnt,
+    match next(rest, gap)? {
+        Member::Word(word, behind) => Some((word, behind)),
+        Member::Open(_, _) => None,
+        Member::Close(_) => None,
     }
 }
 
-// The list that stands next.
-pub fn list_here(line: &[u8], at: usize, gap: bool, depth: usize) -> Span
-    requires { at ≤ length line.now }
-    ensures { ListHere line.now at gap depth result }
+// The inside of the list that stands next, of the members at the depth, and what is left behind the list.
+pub fn inside(rest: &[u8], gap: bool, depth: usize) -> Option<(&[u8], &[u8])>
+    ensures { MatchOption result (NoList rest.now gap depth) (λ p. ListHere rest.now gap depth p.0.now p.1.now) }
 {
-    match next(line, at, gap) {
-        Member::Open(a) => match form(line, a, depth) {
-            Past::At(e) => Span::Is(a + 1, e),
-            Past::Not => Span::Isnt,
-        },
-        Member::Word(_, _) => Span::Isnt,
-        Member::Close(_) => Span::Isnt,
-        Member::Bad => Span::Isnt,
+    match next(rest, gap)? {
+        Member::Open(here, inside) => Some((inside, form(here, depth)?)),
+        Member::Word(_, _) => None,
+        Member::Close(_) => None,
     }
 }
 
 // Whether the list ends here.
-pub fn end_here(line: &[u8], at: usize, gap: bool) -> bool
-    requires { at ≤ length line.now }
-    ensures { EndHere line.now at gap result }
+pub fn ends(rest: &[u8], gap: bool) -> bool
+    ensures { EndHere rest.now gap result }
 {
-    match next(line, at, gap) {
-        Member::Close(_) => true,
-        Member::Word(_, _) => false,
-        Member::Open(_) => false,
-        Member::Bad => false,
+    match next(rest, gap) {
+        Some(Member::Close(_)) => true,
+        Some(Member::Word(_, _)) => false,
+        Some(Member::Open(_, _)) => false,
+        None => false,
     }
 }

@@ -11,16 +11,15 @@ use Rattle.words.specs.Lists.{pick}
 use Rattle.words.specs.Rows.{stored}
 use Rattle.words.specs.Ids.{id_words}
 use Rattle.words.specs.declared.ids.Id.{Id}
-use Rattle.forms.specs.Text.{Members, none, word, sub, ListHere, EndHere}
-use Rattle.forms.specs.TextLaws.{true-false, by_bool, reads_end}
+use Rattle.forms.specs.Text.{Members, none, word, sub, NoList, ListHere, EndHere}
+use Rattle.forms.specs.TextLaws.{true-false, by_bool}
 use Rattle.forms.specs.Nums.{over}
 use Rattle.forms.specs.NumLaws.{wrote_then}
-use Rattle.forms.specs.declared.text.Span.TheVariants.{Is, Isnt}
-use Rattle.lines.specs.Fields.{Rest, gone, here, list_of, past_list, ended, value, past, ids, Stands, FieldAt}
-use Rattle.lines.specs.FieldLaws.{stands-list, stands-no-list, stands-end, stands-gone}
-use Rattle.lines.specs.Items.{boxes, words_of, all_ok, words_in, all_in, fits, count_of, past_items, count_in, past_one, ListAt}
-use Rattle.lines.specs.ItemLaws.{stored-over, past-gone, past-list, words-in-length}
-use Rattle.lines.specs.Blocks.{box_list, tx_words, box_words, is_tx, transactions, inputs_of, inputs_in, fits_block, txs_count, inputs_count, past_block, tx_fits, TxAt, TxsAt, BlockAt}
+use Rattle.lines.specs.Fields.{Rest, gone, here, list_of, past_list, ended, value, past, ids, Stands, FieldAt, NoField}
+use Rattle.lines.specs.FieldLaws.{stands-list, stands-no-list, stands-end, list-behind}
+use Rattle.lines.specs.Items.{boxes, words_of, all_ok, words_in, all_in, fits, count_of, past_items, count_in, past_one, ListAt, NoListed}
+use Rattle.lines.specs.ItemLaws.{stored-over, past-gone, list-one, ends-gone, words-in-length}
+use Rattle.lines.specs.Blocks.{box_list, tx_words, box_words, is_tx, transactions, inputs_of, inputs_in, fits_block, txs_count, inputs_count, past_block, tx_fits, TxAt, NoTx, TxsAt, NoTxs, BlockAt, NoBlock}
 
 -- ---- one transaction
 
@@ -64,61 +63,64 @@ tx-room b i e = go (all_in boxes (box_list i)) (ended (past_list (past ids i))) 
     go true false y e = true-false e refl
     go false p y e = true-false e refl
 
-module _ (l : List ℕ) (at : ℕ) (g : Bool) (d k : ℕ) (x v z : List ℕ) where
-  pub tx-none : (y : List ℕ) → ListHere l at g d Isnt → TxAt l at g d k x y v z 0 (length l)
-  tx-none y f =
-      record {
-        inside = omega arith;
-        ahead = λ h. h;
-        room = omega arith;
-        is = λ t s h. stands-gone l d t (length l) false _ (ap (λ (b : Bool). pick b (past_one s) gone) (no t s h)) (omega arith);
-        wrote = λ t s h o. true-false o (no t s h);
-      }
-    where
-      no : (t : List ℕ) (s : Rest) → Stands l d t at g s → tx_fits (length v) (list_of s) ≡ false
-      no t s h = ap (tx_fits (length v)) (stands-no-list l at g d t f s h).0 ∙ tx-gone (length v)
+items-gone : (b : ℕ) (i : Rest) → i ≡ gone → past_items boxes b i ≡ gone
+unfolding past_items list_of past_list
+items-gone b i e = ap (past_items boxes b) e ∙ go (fits boxes b gone)
+  where
+    go : (c : Bool) → pick c gone gone ≡ gone
+    go true = refl
+    go false = refl
 
-  module _ (a e : ℕ) (f : ListHere l at g d (Is a e)) (w : Id) (n1 : ℕ) (f1 : FieldAt ids l a true w n1) (n n2 : ℕ) (f2 : ListAt boxes l n1 (d - 1) v z n n2) (b : Bool) (en : EndHere l n2 false b) where
-    stood : (t : List ℕ) (s : Rest) → Stands l d t at g s
-        → Stands l (d - 1) (drop e l) n1 false (past ids (list_of s)) × (w ≡ value ids (list_of s)) × Stands l d t e false (past_list s)
-    stood t s h =
-        let r = stands-list l at g d t a e f s h in
-        let p = f1.is r.0 (drop e l) (list_of s) r.2 in
-        let q : r.0 ≡ d - 1 = omega (arith, r.1) in
-        (subst (λ (m : ℕ). Stands l m (drop e l) n1 false (past ids (list_of s))) q p.1, p.0, r.3)
+module _ (s : List ℕ) (g : Bool) (d : ℕ) where
+  pub tx-none : (room : ℕ) → NoList s g d → NoTx s g d room
+  unfolding NoTx
+  tx-none room f t q h = ap (tx_fits room) (stands-no-list s g d t f q h).0 ∙ tx-gone room
 
-    tested : (t : List ℕ) (s : Rest) → Stands l d t at g s → b ≡ tx_fits (length v) (list_of s)
-    tested t s h = stands-end l n2 false (d - 1) (drop e l) b en _ (f2.is (drop e l) _ (stood t s h).0).1 ∙ tx-test (length v) (list_of s)
+  module _ (u r : List ℕ) (f : ListHere s g d u r) where
+    pub tx-no-id : (room : ℕ) → NoField ids u true → NoTx s g d room
+    unfolding NoTx NoField
+    tx-no-id room n t q h =
+        let w = stands-list s g d t u r f q h in
+        sym (tx-test room (list_of q)) ∙ ends-gone _ (items-gone room _ (n w.0 r (list_of q) w.2))
 
-    pub tx-off : (y : List ℕ) → b ≡ false → TxAt l at g d k x y v z 0 (length l)
-    tx-off y p =
-        record {
-          inside = omega arith;
-          ahead = λ h. h;
-          room = omega arith;
-          is = λ t s h. stands-gone l d t (length l) false _ (ap (λ (c : Bool). pick c (past_one s) gone) (sym (tested t s h) ∙ p)) (omega arith);
-          wrote = λ t s h o. true-false o (sym (tested t s h) ∙ p);
-        }
+    module _ (w : Id) (n1 : List ℕ) (f1 : FieldAt ids u true w n1) where
+      stood : (t : List ℕ) (q : Rest) → Stands s d t g q → Stands n1 (d - 1) r false (past ids (list_of q)) × (w ≡ value ids (list_of q)) × Stands r d t false (past_list q)
+      stood t q h =
+          let a = stands-list s g d t u r f q h in
+          let p = f1.is a.0 r (list_of q) a.2 in
+          let e : a.0 ≡ d - 1 = omega (arith, a.1) in
+          (subst (λ (m : ℕ). Stands n1 m r false (past ids (list_of q))) e p.1, p.0, a.3)
 
-    -- y is x with its id, and m the word behind it
-    pub tx-yes : (y : List ℕ) (m : ℕ) → b ≡ true → k + 5 ≤ length x → y ≡ stored x k (id_words w) → m ≡ n / 4 → TxAt l at g d k x (set y (k + 4) m) v z n e
-    unfolding ListHere count_of boxes box_words box_list tx_words
-    tx-yes y m p room put q =
-        record {
-          inside = f.2;
-          ahead = λ h. omega (arith, f.0, f.1);
-          room = f2.room;
-          is = λ t s h. subst (λ (r : Rest). Stands l d t e false r) (sym (ap (λ (c : Bool). pick c (past_list s) gone) (sym (tested t s h) ∙ p)) ∙ past-list (tx_fits (length v)) (tx-gone (length v)) s) (stood t s h).2;
-          wrote = λ t s h o. let st = stood t s h in
-              let fit = tx-room (length v) (list_of s) o in
-              let i = list_of (past ids (list_of s)) in
-              let len : n ≡ length (words_in boxes i) = (f2.is (drop e l) _ st.0).0 ∙ ap (λ (c : Bool). pick c (length (words_in boxes i)) 0) fit in
-              let num : m ≡ count_in i = omega (arith, words-in-length boxes i) in (
-                ap (λ (u : List ℕ). set u (k + 4) m) put ∙ stored-over (id_words w ++ (m ∷ [])) x k room ∙ ap₂ (λ (u : Id) (c : ℕ). over k (id_words u ++ (c ∷ [])) x) st.1 num,
-                f2.wrote (drop e l) _ st.0 fit,
-                len,
-              );
-        }
+      pub tx-no-boxes : (room : ℕ) → NoListed boxes n1 (d - 1) room → NoTx s g d room
+      unfolding NoTx NoListed
+      tx-no-boxes room n t q h = sym (tx-test room (list_of q)) ∙ ends-gone _ (n r _ (stood t q h).0)
+
+      module _ (v z : List ℕ) (n : ℕ) (n2 : List ℕ) (f2 : ListAt boxes n1 (d - 1) v z n n2) (b : Bool) (en : EndHere n2 false b) where
+        tested : (t : List ℕ) (q : Rest) → Stands s d t g q → b ≡ tx_fits (length v) (list_of q)
+        tested t q h = stands-end n2 false (d - 1) r b en _ (f2.is r _ (stood t q h).0).1 ∙ tx-test (length v) (list_of q)
+
+        pub tx-off : b ≡ false → NoTx s g d (length v)
+        unfolding NoTx
+        tx-off e t q h = sym (tested t q h) ∙ e
+
+        -- y is x with its id, and m the word behind it
+        pub tx-yes : (k : ℕ) (x y : List ℕ) (m : ℕ) → b ≡ true → k + 5 ≤ length x → y ≡ stored x k (id_words w) → m ≡ n / 4 → TxAt s g d k x (set y (k + 4) m) v z n r
+        unfolding count_of boxes box_words box_list tx_words
+        tx-yes k x y m p room put num =
+            record {
+              behind = list-behind s g d u r f;
+              room = f2.room;
+              is = λ t q h. (sym (tested t q h) ∙ p, list-one r d t false q (stood t q h).2);
+              wrote = λ t q h. let st = stood t q h in
+                  let fit = f2.fit r _ st.0 in
+                  let i = list_of (past ids (list_of q)) in
+                  let len : n ≡ length (words_in boxes i) = (f2.is r _ st.0).0 ∙ ap (λ (c : Bool). pick c (length (words_in boxes i)) 0) fit in
+                  let count : m ≡ count_in i = omega (arith, words-in-length boxes i) in (
+                    ap (λ (c : List ℕ). set c (k + 4) m) put ∙ stored-over (id_words w ++ (m ∷ [])) x k room ∙ ap₂ (λ (a : Id) (c : ℕ). over k (id_words a ++ (c ∷ [])) x) st.1 count,
+                    f2.wrote r _ st.0,
+                    len,
+                  );
+            }
 
 -- ---- a part of a slice that was lent
 
@@ -173,238 +175,211 @@ module _ (a b : ℕ) (s : Rest) where
   all_room e p q =
       ap₂ (λ (c u : Bool). pick (pick c u false) (leb (length (inputs_in s)) b) false) e (le-leb _ _ p) ∙ le-leb _ _ q
 
--- ---- all transactions: reading on from i, over the words that were written, is reading from at
+-- ---- all transactions: reading on from r, over the words that were written, is reading from s
 
 -- the words of the transactions that were read, those of n being left
-pub record Sofar (x y v z : List ℕ) (k j : ℕ) (s : Rest) (n : Members) : Type 0 where
+pub record Sofar (x y v z : List ℕ) (k j : ℕ) (q : Rest) (n : Members) : Type 0 where
   pub first : List ℕ
   pub second : List ℕ
-  pub all : all_in transactions s ≡ all_ok transactions n
-  pub words : words_in transactions s ≡ first ++ words_of transactions n
-  pub inputs : inputs_in s ≡ second ++ inputs_of n
+  pub all : all_in transactions q ≡ all_ok transactions n
+  pub words : words_in transactions q ≡ first ++ words_of transactions n
+  pub inputs : inputs_in q ≡ second ++ inputs_of n
   pub long : length first ≡ k
   pub long-2 : length second ≡ j
   pub wrote : y ≡ over 0 first x
   pub wrote-2 : z ≡ over 0 second v
 
-unfoldable pub Left : (x y v z : List ℕ) (k j : ℕ) (s : Rest) → Rest → Type 0
-Left x y v z k j s gone = fits_block (length x) (length v) s ≡ false
-Left x y v z k j s (here n) = Sofar x y v z k j s n
+unfoldable pub Left : (x y v z : List ℕ) (k j : ℕ) (q : Rest) → Rest → Type 0
+Left x y v z k j q gone = ⊥
+Left x y v z k j q (here n) = Sofar x y v z k j q n
 
-pub record Moves (l : List ℕ) (d at i : ℕ) (g : Bool) (x y v z : List ℕ) (k j : ℕ) : Type 0 where
-  pub inside : i ≤ length l
+pub record Moves (s : List ℕ) (d : ℕ) (r : List ℕ) (g : Bool) (x y v z : List ℕ) (k j : ℕ) : Type 0 where
   pub room : k ≤ length x
   pub room-2 : j ≤ length v
   pub same : length y ≡ length x
   pub same-2 : length z ≡ length v
-  pub read : (t : List ℕ) (s : Rest) → Stands l d t at true s → (n : Rest) × Stands l d t i g n × Left x y v z k j s n
+  pub read : (t : List ℕ) (q : Rest) → Stands s d t true q → (n : Rest) × Stands r d t g n × Left x y v z k j q n
 
-pub moves-start : (l : List ℕ) (d at : ℕ) (x v : List ℕ) → at ≤ length l → Moves l d at at true x x v v 0 0
-unfolding Left fits_block fits all_in words_in inputs_in
-moves-start l d at x v h = record { inside = h; room = omega arith; room-2 = omega arith; same = refl; same-2 = refl; read = λ t s r. (s, r, left s) }
+pub moves-start : (s : List ℕ) (d : ℕ) (x v : List ℕ) → Moves s d s true x x v v 0 0
+unfolding Left Stands all_in words_in inputs_in
+moves-start s d x v = record { room = omega arith; room-2 = omega arith; same = refl; same-2 = refl; read = λ t q h. (q, h, left t q h) }
   where
-    left : (s : Rest) → Left x x v v 0 0 s s
-    left gone = refl
-    left (here m) = record { first = []; second = []; all = refl; words = refl; inputs = refl; long = refl; long-2 = refl; wrote = refl; wrote-2 = refl }
+    left : (t : List ℕ) (q : Rest) → Stands s d t true q → Left x x v v 0 0 q q
+    left t gone h = absurd h
+    left t (here m) h = record { first = []; second = []; all = refl; words = refl; inputs = refl; long = refl; long-2 = refl; wrote = refl; wrote-2 = refl }
 
-module _ (l : List ℕ) (d at i : ℕ) (g : Bool) (x y v z : List ℕ) (k j : ℕ) (o : Moves l d at i g x y v z k j) where
-  module _ (y' u : List ℕ) (n next : ℕ) (room : k + 5 ≤ length y) (a : TxAt l i g d k y y' (take (length z - j) (drop j z)) u n next) where
+module _ (s : List ℕ) (d : ℕ) (r : List ℕ) (g : Bool) (x y v z : List ℕ) (k j : ℕ) (o : Moves s d r g x y v z k j) where
+  abbrev tail-room : ℕ
+  tail-room = length (take (length z - j) (drop j z))
+
+  room-left : tail-room ≡ length v - j
+  room-left = omega (arith, lent_length z j (omega (arith, o.room-2, o.same-2)), o.same-2)
+
+  module _ (y' u : List ℕ) (n : ℕ) (next : List ℕ) (room : k + 5 ≤ length y) (a : TxAt r g d k y y' (take (length z - j) (drop j z)) u n next) where
     -- the second slice with the part that was lent
     abbrev z' : List ℕ
     z' = take j z ++ (u ++ drop (length z - j) (drop j z))
 
-    abbrev tail-room : ℕ
-    tail-room = length (take (length z - j) (drop j z))
-
-    -- one member m more, of which r is behind
-    member : (t : List ℕ) (s : Rest) (m r : Members) → all_ok transactions m ≡ pick (is_tx (list_of (here m))) (all_ok transactions r) false
-        → words_of transactions m ≡ tx_words (list_of (here m)) ++ words_of transactions r → inputs_of m ≡ box_words (list_of (here m)) ++ inputs_of r → past_one (here m) ≡ here r
-        → Stands l d t i g (here m) → Sofar x y v z k j s m → (q : Rest) × Stands l d t next false q × Left x y' v z' (k + 5) (j + n) s q
+    -- one member m more, of which w is behind
+    member : (t : List ℕ) (q : Rest) (m w : Members) → all_ok transactions m ≡ pick (is_tx (list_of (here m))) (all_ok transactions w) false
+        → words_of transactions m ≡ tx_words (list_of (here m)) ++ words_of transactions w → inputs_of m ≡ box_words (list_of (here m)) ++ inputs_of w → past_one (here m) ≡ here w
+        → Stands r d t g (here m) → Sofar x y v z k j q m → (p : Rest) × Stands next d t false p × Left x y' v z' (k + 5) (j + n) q p
     unfolding Left tx_fits
-    member t s m r am wm im pm st ti =
-        by_bool (tx_fits tail-room (list_of (here m)))
-        (λ e. let w = a.wrote t (here m) st e in
-        let c : length (tx_words (list_of (here m))) ≡ 5 = tx-wide (list_of (here m)) in
-        let p = pick-test (is_tx (list_of (here m))) _ e in (
-          here r,
-          subst (λ (q : Rest). Stands l d t next false q) (ap (λ (q : Bool). pick q (past_one (here m)) gone) e ∙ pm) (a.is t (here m) st),
+    member t q m w am wm im pm st ti =
+        let e = a.is t (here m) st in
+        let c = a.wrote t (here m) st in
+        let five : length (tx_words (list_of (here m))) ≡ 5 = tx-wide (list_of (here m)) in
+        let p = pick-test (is_tx (list_of (here m))) _ e.0 in (
+          here w,
+          subst (λ (b : Rest). Stands next d t false b) pm e.1,
           record {
             first = ti.first ++ tx_words (list_of (here m));
             second = ti.second ++ box_words (list_of (here m));
-            all = ti.all ∙ am ∙ ap (λ (q : Bool). pick q (all_ok transactions r) false) p;
-            words = ti.words ∙ ap (λ (q : List ℕ). ti.first ++ q) wm ∙ sym (append_assoc ti.first (tx_words (list_of (here m))) (words_of transactions r));
-            inputs = ti.inputs ∙ ap (λ (q : List ℕ). ti.second ++ q) im ∙ sym (append_assoc ti.second (box_words (list_of (here m))) (inputs_of r));
+            all = ti.all ∙ am ∙ ap (λ (b : Bool). pick b (all_ok transactions w) false) p;
+            words = ti.words ∙ ap (λ (b : List ℕ). ti.first ++ b) wm ∙ sym (append_assoc ti.first (tx_words (list_of (here m))) (words_of transactions w));
+            inputs = ti.inputs ∙ ap (λ (b : List ℕ). ti.second ++ b) im ∙ sym (append_assoc ti.second (box_words (list_of (here m))) (inputs_of w));
             long = length-append ti.first (tx_words (list_of (here m))) ∙ omega (arith, ti.long);
-            long-2 = length-append ti.second (box_words (list_of (here m))) ∙ omega (arith, ti.long-2, w.2);
+            long-2 = length-append ti.second (box_words (list_of (here m))) ∙ omega (arith, ti.long-2, c.2);
             wrote =
-                wrote_then 0 x ti.first y (tx_words (list_of (here m))) y' (omega (arith, ti.long, o.room)) ti.wrote (w.0 ∙ ap (λ (q : ℕ). over q (tx_words (list_of (here m))) y) (let e1 : k ≡ 0 + length ti.first = omega (arith, ti.long) in e1));
+                wrote_then 0 x ti.first y (tx_words (list_of (here m))) y' (omega (arith, ti.long, o.room)) ti.wrote (c.0 ∙ ap (λ (b : ℕ). over b (tx_words (list_of (here m))) y) (let e1 : k ≡ 0 + length ti.first = omega (arith, ti.long) in e1));
             wrote-2 =
                 wrote_then 0 v ti.second z (box_words (list_of (here m))) z' (omega (arith, ti.long-2, o.room-2)) ti.wrote-2
-                (back z j (omega (arith, o.room-2, o.same-2)) u (box_words (list_of (here m))) w.1 ∙ ap (λ (q : ℕ). over q (box_words (list_of (here m))) z) (let e2 : j ≡ 0 + length ti.second = omega (arith, ti.long-2) in e2));
+                (back z j (omega (arith, o.room-2, o.same-2)) u (box_words (list_of (here m))) c.1 ∙ ap (λ (b : ℕ). over b (box_words (list_of (here m))) z) (let e2 : j ≡ 0 + length ti.second = omega (arith, ti.long-2) in e2));
           },
-        ))
-        (λ e. (gone, subst (λ (q : Rest). Stands l d t next false q) (ap (λ (q : Bool). pick q (past_one (here m)) gone) e) (a.is t (here m) st), off e))
+        )
       where
         pick-test : (p q : Bool) → pick p q false ≡ true → p ≡ true
         pick-test true q e = refl
         pick-test false q e = e
 
-        off : tx_fits tail-room (list_of (here m)) ≡ false → fits_block (length x) (length v) s ≡ false
-        off e =
-            by_bool (is_tx (list_of (here m)))
-            (λ p. no-inputs (length x) (length v) s (let f = leb-false (length (box_words (list_of (here m)))) tail-room (sym (ap (λ (q : Bool). pick q (leb (length (box_words (list_of (here m)))) tail-room) false) p) ∙ e) in
-            let n1 = ap length (ti.inputs ∙ ap (λ (q : List ℕ). ti.second ++ q) im) ∙ length-append ti.second (box_words (list_of (here m)) ++ inputs_of r) in
-            let n2 = length-append (box_words (list_of (here m))) (inputs_of r) in
-            omega (arith, f, ti.long-2, lent_length z j (omega (arith, o.room-2, o.same-2)), o.same-2)))
-            (λ p. not-all (length x) (length v) s (ti.all ∙ am ∙ ap (λ (q : Bool). pick q (all_ok transactions r) false) p))
-
-    moves-on : EndHere l i g false → length y' ≡ length y → length u ≡ tail-room → Moves l d at next false x y' v z' (k + 5) (j + n)
+    moves-on : EndHere r g false → length y' ≡ length y → length u ≡ tail-room → Moves s d next false x y' v z' (k + 5) (j + n)
     unfolding Left past_one all_ok words_of inputs_of Stands transactions list_of
     moves-on en sy su =
         record {
-          inside = a.inside;
           room = omega (arith, o.same);
           room-2 = omega (arith, a.room, lent_length z j (omega (arith, o.room-2, o.same-2)), o.room-2, o.same-2);
           same = sy ∙ o.same;
           same-2 = back-length z j (omega (arith, o.room-2, o.same-2)) u su ∙ o.same-2;
-          read = λ t s r. let q = o.read t s r in step t s q.0 q.1 q.2;
+          read = λ t q h. let p = o.read t q h in step t q p.0 p.1 p.2;
         }
       where
-        nothing : (c : Bool) → pick c gone gone ≡ gone
-        nothing true = refl
-        nothing false = refl
-
-        step : (t : List ℕ) (s m : Rest) → Stands l d t i g m → Left x y v z k j s m → (q : Rest) × Stands l d t next false q × Left x y' v z' (k + 5) (j + n) s q
-        step t s gone st ti = (gone, subst (λ (q : Rest). Stands l d t next false q) (nothing (tx_fits tail-room gone)) (a.is t gone st), ti)
-        step t s (here none) st ti = absurd (en.not refl d none t st refl)
-        step t s (here (word w r)) st ti = member t s (word w r) r refl refl (ap (λ (q : List ℕ). q ++ inputs_of r) (sym no-boxes)) refl st ti
-        step t s (here (sub h r)) st ti = member t s (sub h r) r refl refl refl refl st ti
+        step : (t : List ℕ) (q m : Rest) → Stands r d t g m → Left x y v z k j q m → (p : Rest) × Stands next d t false p × Left x y' v z' (k + 5) (j + n) q p
+        step t q gone st ti = absurd st
+        step t q (here none) st ti = absurd (en.not refl d none t st refl)
+        step t q (here (word w b)) st ti = member t q (word w b) b refl refl (ap (λ (c : List ℕ). c ++ inputs_of b) (sym no-boxes)) refl st ti
+        step t q (here (sub h b)) st ti = member t q (sub h b) b refl refl refl refl st ti
 
   -- the same with the part's start as the code has it
-  pub moves_from : (from : ℕ) (y' u : List ℕ) (n next : ℕ) → k + 5 ≤ length y → TxAt l i g d k y y' (take (length z - from) (drop from z)) u n next → from ≡ j
-      → EndHere l i g false → length y' ≡ length y → length u ≡ length (take (length z - from) (drop from z))
-      → Moves l d at next false x y' v (take from z ++ (u ++ drop (length z - from) (drop from z))) (k + 5) (j + n)
+  pub moves_from : (from : ℕ) (y' u : List ℕ) (n : ℕ) (next : List ℕ) → k + 5 ≤ length y → TxAt r g d k y y' (take (length z - from) (drop from z)) u n next → from ≡ j
+      → EndHere r g false → length y' ≡ length y → length u ≡ length (take (length z - from) (drop from z))
+      → Moves s d next false x y' v (take from z ++ (u ++ drop (length z - from) (drop from z))) (k + 5) (j + n)
   moves_from from y' u n next room a e en sy su =
-      subst (λ (f : ℕ). TxAt l i g d k y y' (take (length z - f) (drop f z)) u n next → length u ≡ length (take (length z - f) (drop f z)) → Moves l d at next false x y' v (take f z ++ (u ++ drop (length z - f) (drop f z))) (k + 5) (j + n))
+      subst (λ (f : ℕ). TxAt r g d k y y' (take (length z - f) (drop f z)) u n next → length u ≡ length (take (length z - f) (drop f z)) → Moves s d next false x y' v (take f z ++ (u ++ drop (length z - f) (drop f z))) (k + 5) (j + n))
       (sym e) (λ b h. moves-on y' u n next room b en sy h) a su
 
   -- all transactions were read
-  pub ends-whole : EndHere l i g true → TxsAt l at d x y v z k j true
+  pub ends-whole : EndHere r g true → TxsAt s d x y v z k j
   unfolding Left Stands all_ok words_of inputs_of txs_count inputs_count
   ends-whole en =
       record {
-        is = λ t s r. let f = found t s r in
-            let e = fit s f in
-            (sym e, sym (ap (λ (c : Bool). pick c (length (words_in transactions s)) 0) e ∙ len s f), sym (ap (λ (c : Bool). pick c (length (inputs_in s)) 0) e ∙ len-2 s f));
-        wrote = λ e t s r. let f = found t s r in (f.wrote ∙ ap (λ (q : List ℕ). over 0 q x) (sym (words s f)), f.wrote-2 ∙ ap (λ (q : List ℕ). over 0 q v) (sym (inputs s f)));
+        is = λ t q h. let f = found t q h in
+            let e = fit q f in
+            (e, sym (ap (λ (c : Bool). pick c (length (words_in transactions q)) 0) e ∙ len q f), sym (ap (λ (c : Bool). pick c (length (inputs_in q)) 0) e ∙ len-2 q f));
+        wrote = λ t q h. let f = found t q h in (f.wrote ∙ ap (λ (c : List ℕ). over 0 c x) (sym (words q f)), f.wrote-2 ∙ ap (λ (c : List ℕ). over 0 c v) (sym (inputs q f)));
       }
     where
-      found : (t : List ℕ) (s : Rest) → Stands l d t at true s → Sofar x y v z k j s none
-      found t s r = let q = o.read t s r in go q.0 q.1 q.2
+      found : (t : List ℕ) (q : Rest) → Stands s d t true q → Sofar x y v z k j q none
+      found t q h = let p = o.read t q h in go p.0 p.1 p.2
         where
-          go : (n : Rest) → Stands l d t i g n → Left x y v z k j s n → Sofar x y v z k j s none
-          go gone st ti = absurd (omega (arith, en.inside refl))
-          go (here m) st ti = subst (λ (q : Members). Sofar x y v z k j s q) (en.is refl d m t st) ti
+          go : (n : Rest) → Stands r d t g n → Left x y v z k j q n → Sofar x y v z k j q none
+          go gone st ti = absurd st
+          go (here m) st ti = subst (λ (b : Members). Sofar x y v z k j q b) (en.is refl d m t st) ti
 
-      words : (s : Rest) (f : Sofar x y v z k j s none) → words_in transactions s ≡ f.first
-      words s f = f.words ∙ append-nil f.first
+      words : (q : Rest) (f : Sofar x y v z k j q none) → words_in transactions q ≡ f.first
+      words q f = f.words ∙ append-nil f.first
 
-      inputs : (s : Rest) (f : Sofar x y v z k j s none) → inputs_in s ≡ f.second
-      inputs s f = f.inputs ∙ append-nil f.second
+      inputs : (q : Rest) (f : Sofar x y v z k j q none) → inputs_in q ≡ f.second
+      inputs q f = f.inputs ∙ append-nil f.second
 
-      len : (s : Rest) → Sofar x y v z k j s none → length (words_in transactions s) ≡ k
-      len s f = ap length (words s f) ∙ f.long
+      len : (q : Rest) → Sofar x y v z k j q none → length (words_in transactions q) ≡ k
+      len q f = ap length (words q f) ∙ f.long
 
-      len-2 : (s : Rest) → Sofar x y v z k j s none → length (inputs_in s) ≡ j
-      len-2 s f = ap length (inputs s f) ∙ f.long-2
+      len-2 : (q : Rest) → Sofar x y v z k j q none → length (inputs_in q) ≡ j
+      len-2 q f = ap length (inputs q f) ∙ f.long-2
 
-      fit : (s : Rest) → Sofar x y v z k j s none → fits_block (length x) (length v) s ≡ true
-      fit s f = all_room (length x) (length v) s f.all (omega (arith, len s f, o.room)) (omega (arith, len-2 s f, o.room-2))
+      fit : (q : Rest) → Sofar x y v z k j q none → fits_block (length x) (length v) q ≡ true
+      fit q f = all_room (length x) (length v) q f.all (omega (arith, len q f, o.room)) (omega (arith, len-2 q f, o.room-2))
 
-  no-txs : ((t : List ℕ) (s : Rest) → Stands l d t at true s → fits_block (length x) (length v) s ≡ false) → TxsAt l at d x y v z 0 0 false
-  unfolding txs_count inputs_count
-  no-txs f =
-      record {
-        is = λ t s r. (sym (f t s r), sym (ap (λ (c : Bool). pick c (length (words_in transactions s)) 0) (f t s r)), sym (ap (λ (c : Bool). pick c (length (inputs_in s)) 0) (f t s r)));
-        wrote = λ e. true-false e refl;
-      }
-
-  pub ends-line : length l ≤ i → TxsAt l at d x y v z 0 0 false
-  unfolding Left Stands
-  ends-line h = no-txs (λ t s r. let q = o.read t s r in go t s q.0 q.1 q.2)
+  -- the members that are left are no transactions, or have no room
+  no-fit : EndHere r g false
+      → ((q : Rest) (m w : Members) (t : List ℕ) → Stands r d t g (here m) → all_ok transactions m ≡ pick (is_tx (list_of (here m))) (all_ok transactions w) false
+      → words_of transactions m ≡ transactions.of (here m) ++ words_of transactions w → inputs_of m ≡ box_words (list_of (here m)) ++ inputs_of w → Sofar x y v z k j q m → fits_block (length x) (length v) q ≡ false)
+      → NoTxs s d (length x) (length v)
+  unfolding NoTxs Left Stands all_ok words_of inputs_of transactions list_of
+  no-fit en f t q h = let p = o.read t q h in go p.0 p.1 p.2
     where
-      go : (t : List ℕ) (s n : Rest) → Stands l d t i g n → Left x y v z k j s n → fits_block (length x) (length v) s ≡ false
-      go t s gone st ti = ti
-      go t s (here m) st ti = absurd (reads_end l i d g m t h st)
+      go : (n : Rest) → Stands r d t g n → Left x y v z k j q n → fits_block (length x) (length v) q ≡ false
+      go gone st ti = absurd st
+      go (here none) st ti = absurd (en.not refl d none t st refl)
+      go (here (word w b)) st ti = f q (word w b) b t st refl refl (ap (λ (c : List ℕ). c ++ inputs_of b) (sym no-boxes)) ti
+      go (here (sub i b)) st ti = f q (sub i b) b t st refl refl refl ti
 
   -- a transaction more has no room
-  pub ends-full : EndHere l i g false → length y - k < 5 → TxsAt l at d x y v z 0 0 false
-  unfolding Left Stands words_of transactions
-  ends-full en full = no-txs (λ t s r. let q = o.read t s r in go t s q.0 q.1 q.2)
-    where
-      long : (s : Rest) (m : Members) (ws r : List ℕ) → words_of transactions m ≡ ws ++ r → length ws ≡ 5 → Sofar x y v z k j s m → fits_block (length x) (length v) s ≡ false
-      long s m ws r wm w5 ti =
-          let n1 = ap length (ti.words ∙ ap (λ (q : List ℕ). ti.first ++ q) wm) ∙ length-append ti.first (ws ++ r) in
-          let n2 = length-append ws r in
-          no_words (length x) (length v) s (omega (arith, ti.long, o.room, o.same))
+  pub ends-full : EndHere r g false → length y - k < 5 → NoTxs s d (length x) (length v)
+  unfolding transactions
+  ends-full en full =
+      no-fit en
+      (λ q m w t st am wm im ti.
+      let n1 = ap length (ti.words ∙ ap (λ (b : List ℕ). ti.first ++ b) wm) ∙ length-append ti.first (transactions.of (here m) ++ words_of transactions w) in
+      let n2 = length-append (transactions.of (here m)) (words_of transactions w) in
+      no_words (length x) (length v) q (omega (arith, ti.long, o.room, o.same, transactions.wide (here m))))
 
-      go : (t : List ℕ) (s n : Rest) → Stands l d t i g n → Left x y v z k j s n → fits_block (length x) (length v) s ≡ false
-      go t s gone st ti = ti
-      go t s (here none) st ti = absurd (en.not refl d none t st refl)
-      go t s (here (word w n)) st ti = long s (word w n) (transactions.of (here (word w n))) (words_of transactions n) refl (transactions.wide (here (word w n))) ti
-      go t s (here (sub h n)) st ti = long s (sub h n) (transactions.of (here (sub h n))) (words_of transactions n) refl (transactions.wide (here (sub h n))) ti
+  -- the next member is no transaction, or its boxes have no room
+  pub ends-tx : (from : ℕ) → from ≡ j → EndHere r g false → NoTx r g d (length (take (length z - from) (drop from z))) → NoTxs s d (length x) (length v)
+  unfolding NoTx tx_fits
+  ends-tx from e en n =
+      no-fit en
+      (λ q m w t st am wm im ti.
+      let a = subst (λ (f : ℕ). tx_fits (length (take (length z - f) (drop f z))) (list_of (here m)) ≡ false) e (n t (here m) st) in
+      by_bool (is_tx (list_of (here m)))
+      (λ p. no-inputs (length x) (length v) q (let f = leb-false (length (box_words (list_of (here m)))) tail-room (sym (ap (λ (b : Bool). pick b (leb (length (box_words (list_of (here m)))) tail-room) false) p) ∙ a) in
+      let n1 = ap length (ti.inputs ∙ ap (λ (b : List ℕ). ti.second ++ b) im) ∙ length-append ti.second (box_words (list_of (here m)) ++ inputs_of w) in
+      let n2 = length-append (box_words (list_of (here m))) (inputs_of w) in
+      omega (arith, f, ti.long-2, room-left)))
+      (λ p. not-all (length x) (length v) q (ti.all ∙ am ∙ ap (λ (b : Bool). pick b (all_ok transactions w) false) p)))
 
 -- ---- the list as a field
 
-module _ (l : List ℕ) (at d : ℕ) (x v : List ℕ) where
-  pub block_none : (y z : List ℕ) → ListHere l at false d Isnt → BlockAt l at d x y v z 0 0 (length l)
-  unfolding txs_count inputs_count past_block fits_block fits all_in
-  block_none y z f =
+module _ (s : List ℕ) (d a b : ℕ) where
+  pub block_none : NoList s false d → NoBlock s d a b
+  unfolding NoBlock past_block fits_block fits all_in
+  block_none f t q h =
+      let w = stands-no-list s false d t f q h in
+      ap₂ (λ (c e : Rest). pick (fits_block a b c) e gone) w.0 w.1
+
+module _ (s : List ℕ) (d : ℕ) (u r : List ℕ) (f : ListHere s false d u r) where
+  inner : (t : List ℕ) (q : Rest) → Stands s d t false q → Stands u (d - 1) r true (list_of q) × Stands r d t false (past_list q)
+  inner t q h =
+      let w = stands-list s false d t u r f q h in
+      let e : w.0 ≡ d - 1 = omega (arith, w.1) in
+      (subst (λ (i : ℕ). Stands u i r true (list_of q)) e w.2, w.3)
+
+  pub block-off : (a b : ℕ) → NoTxs u (d - 1) a b → NoBlock s d a b
+  unfolding NoBlock NoTxs past_block
+  block-off a b n t q h = ap (λ (c : Bool). pick c (past_list q) gone) (n r (list_of q) (inner t q h).0)
+
+  pub block-yes : (x y v z : List ℕ) (n m : ℕ) → TxsAt u (d - 1) x y v z n m → BlockAt s d x y v z n m r
+  unfolding past_block
+  block-yes x y v z n m j =
       record {
-        inside = omega arith;
-        is = λ t s h. let e = no s (stands-no-list l at false d t f s h).0 in (
-          sym (ap (λ (c : Bool). pick c (length (words_in transactions (list_of s))) 0) e),
-          sym (ap (λ (c : Bool). pick c (length (inputs_in (list_of s))) 0) e),
-          stands-gone l d t (length l) false (past_block (length x) (length v) s) (ap (λ (c : Bool). pick c (past_list s) gone) e) (omega arith),
-        );
-        wrote = λ t s h e. true-false e (no s (stands-no-list l at false d t f s h).0);
+        behind = list-behind s false d u r f;
+        is = λ t q h. let w = inner t q h in
+            let p = j.is r (list_of q) w.0 in
+            (p.1, p.2, subst (λ (c : Bool). Stands r d t false (pick c (past_list q) gone)) (sym p.0) w.1);
+        wrote = λ t q h. j.wrote r (list_of q) (inner t q h).0;
       }
-    where
-      no : (s : Rest) → list_of s ≡ gone → fits_block (length x) (length v) (list_of s) ≡ false
-      no s e = ap (fits_block (length x) (length v)) e
 
-  module _ (a e : ℕ) (f : ListHere l at false d (Is a e)) (y z : List ℕ) (n m : ℕ) (b : Bool) (j : TxsAt l a (d - 1) x y v z n m b) where
-    inner : (t : List ℕ) (s : Rest) → Stands l d t at false s → Stands l (d - 1) (drop e l) a true (list_of s) × Stands l d t e false (past_list s)
-    inner t s h =
-        let w = stands-list l at false d t a e f s h in
-        let q : w.0 ≡ d - 1 = omega (arith, w.1) in
-        (subst (λ (i : ℕ). Stands l i (drop e l) a true (list_of s)) q w.2, w.3)
-
-    pub block-yes : b ≡ true → BlockAt l at d x y v z n m e
-    unfolding past_block ListHere
-    block-yes p =
-        record {
-          inside = f.2;
-          is = λ t s h. let w = inner t s h in
-              let q = j.is (drop e l) (list_of s) w.0 in
-              (q.1, q.2, subst (λ (c : Bool). Stands l d t e false (pick c (past_list s) gone)) (sym p ∙ q.0) w.1);
-          wrote = λ t s h o. j.wrote p (drop e l) (list_of s) (inner t s h).0;
-        }
-
-    pub block-off : b ≡ false → BlockAt l at d x y v z 0 0 (length l)
-    unfolding past_block txs_count inputs_count
-    block-off p =
-        record {
-          inside = omega arith;
-          is = λ t s h. let no = sym (j.is (drop e l) (list_of s) (inner t s h).0).0 ∙ p in (
-            sym (ap (λ (c : Bool). pick c (length (words_in transactions (list_of s))) 0) no),
-            sym (ap (λ (c : Bool). pick c (length (inputs_in (list_of s))) 0) no),
-            stands-gone l d t (length l) false (past_block (length x) (length v) s) (ap (λ (c : Bool). pick c (past_list s) gone) no) (omega arith),
-          );
-          wrote = λ t s h o. true-false o (sym (j.is (drop e l) (list_of s) (inner t s h).0).0 ∙ p);
-        }
-
--- of what must have come to an end, both lists have room
-pub block_room : (a b : ℕ) (s : Rest) → ended (past_block a b s) ≡ true → fits_block a b (list_of s) ≡ true
-unfolding past_block ended
-block_room a b s e = by_bool (fits_block a b (list_of s)) (λ p. p) (λ p. true-false e (ap (λ (c : Bool). ended (pick c (past_list s) gone)) p))
+-- nothing is left behind nothing
+pub block-then : (a b : ℕ) (q : Rest) → q ≡ gone → past_block a b q ≡ gone
+unfolding past_block fits_block fits all_in list_of
+block-then a b q e = ap (past_block a b) e

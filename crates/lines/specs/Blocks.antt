@@ -1,9 +1,9 @@
 -- The transactions of a block, `((ID (BOX..))..)`, as the two flat lists that the call takes (D3): "transactions of a block: id (4), number of inputs;
 -- their inputs follow in a second list, ids of 4".
-use Rattle.std.specs.Prelude.{ℕ, ◌≤◌, ◌<◌, ◌≡◌, refl, Bool, true, false, List, [], ◌∷◌, ◌++◌, length, leb}
+use Rattle.std.specs.Prelude.{ℕ, ◌≤◌, ◌≡◌, refl, Bool, true, false, List, [], ◌∷◌, ◌++◌, length, leb}
 use Rattle.words.specs.Lists.{pick}
 use Rattle.words.specs.Ids.{id_words}
-use Rattle.forms.specs.Text.{Members, none, word, sub}
+use Rattle.forms.specs.Text.{Members, none, word, sub, Behind}
 use Rattle.forms.specs.Nums.{over, id_read, is_hex, is_digits, more, digit_of, id_of_digits}
 use Rattle.lines.specs.Fields.{Rest, gone, here, word_of, past_word, list_of, past_list, ended, value, past, ids, Stands}
 use Rattle.lines.specs.Items.{Item, list_item, boxes, words_of, all_ok, words_in, all_in, fits, count, count_in, past_one}
@@ -61,28 +61,36 @@ past_block a b s = pick (fits_block a b (list_of s)) (past_list s) gone
 unfoldable pub tx_fits : ℕ → Rest → Bool
 tx_fits b i = pick (is_tx i) (leb (length (box_words i)) b) false
 
--- a reader of one transaction: y is x with its record from index k on, z is v with its boxes in front, n words of them
-pub record TxAt (l : List ℕ) (at : ℕ) (g : Bool) (d k : ℕ) (x y v z : List ℕ) (n next : ℕ) : Type 0 where
-  pub inside : next ≤ length l
-  pub ahead : at < length l → at < next
+-- a reader of one transaction: y is x with its record from index k on, z is v with its boxes in front, n words of them, and r is left
+pub record TxAt (s : List ℕ) (g : Bool) (d k : ℕ) (x y v z : List ℕ) (n : ℕ) (r : List ℕ) : Type 0 where
+  pub behind : Behind s r
   pub room : n ≤ length v
-  pub is : (t : List ℕ) (s : Rest) → Stands l d t at g s → Stands l d t next false (pick (tx_fits (length v) (list_of s)) (past_one s) gone)
-  pub wrote : (t : List ℕ) (s : Rest) → Stands l d t at g s → tx_fits (length v) (list_of s) ≡ true
-      → (y ≡ over k (tx_words (list_of s)) x) × (z ≡ over 0 (box_words (list_of s)) v) × (n ≡ length (box_words (list_of s)))
+  pub is : (t : List ℕ) (q : Rest) → Stands s d t g q → (tx_fits (length v) (list_of q) ≡ true) × Stands r d t false (past_one q)
+  pub wrote : (t : List ℕ) (q : Rest) → Stands s d t g q
+      → (y ≡ over k (tx_words (list_of q)) x) × (z ≡ over 0 (box_words (list_of q)) v) × (n ≡ length (box_words (list_of q)))
+
+-- the member that stands next is no transaction, or its boxes have no room
+unfoldable pub NoTx : List ℕ → Bool → ℕ → ℕ → Type 0
+NoTx s g d room = (t : List ℕ) (q : Rest) → Stands s d t g q → tx_fits room (list_of q) ≡ false
 
 -- a reader of all transactions: n and m words of both lists
-pub record TxsAt (l : List ℕ) (at d : ℕ) (x y v z : List ℕ) (n m : ℕ) (b : Bool) : Type 0 where
-  pub is : (t : List ℕ) (s : Rest) → Stands l d t at true s
-      → (b ≡ fits_block (length x) (length v) s) × (n ≡ txs_count (length x) (length v) s) × (m ≡ inputs_count (length x) (length v) s)
-  pub wrote : b ≡ true → (t : List ℕ) (s : Rest) → Stands l d t at true s → (y ≡ over 0 (words_in transactions s) x) × (z ≡ over 0 (inputs_in s) v)
+pub record TxsAt (s : List ℕ) (d : ℕ) (x y v z : List ℕ) (n m : ℕ) : Type 0 where
+  pub is : (t : List ℕ) (q : Rest) → Stands s d t true q
+      → (fits_block (length x) (length v) q ≡ true) × (n ≡ txs_count (length x) (length v) q) × (m ≡ inputs_count (length x) (length v) q)
+  pub wrote : (t : List ℕ) (q : Rest) → Stands s d t true q → (y ≡ over 0 (words_in transactions q) x) × (z ≡ over 0 (inputs_in q) v)
+
+unfoldable pub NoTxs : List ℕ → ℕ → ℕ → ℕ → Type 0
+NoTxs s d a b = (t : List ℕ) (q : Rest) → Stands s d t true q → fits_block a b q ≡ false
 
 -- the same with the list's brackets, as a field
-pub record BlockAt (l : List ℕ) (at d : ℕ) (x y v z : List ℕ) (n m next : ℕ) : Type 0 where
-  pub inside : next ≤ length l
-  pub is : (t : List ℕ) (s : Rest) → Stands l d t at false s
-      → (n ≡ txs_count (length x) (length v) (list_of s)) × (m ≡ inputs_count (length x) (length v) (list_of s)) × Stands l d t next false (past_block (length x) (length v) s)
-  pub wrote : (t : List ℕ) (s : Rest) → Stands l d t at false s → fits_block (length x) (length v) (list_of s) ≡ true
-      → (y ≡ over 0 (words_in transactions (list_of s)) x) × (z ≡ over 0 (inputs_in (list_of s)) v)
+pub record BlockAt (s : List ℕ) (d : ℕ) (x y v z : List ℕ) (n m : ℕ) (r : List ℕ) : Type 0 where
+  pub behind : Behind s r
+  pub is : (t : List ℕ) (q : Rest) → Stands s d t false q
+      → (n ≡ txs_count (length x) (length v) (list_of q)) × (m ≡ inputs_count (length x) (length v) (list_of q)) × Stands r d t false (past_block (length x) (length v) q)
+  pub wrote : (t : List ℕ) (q : Rest) → Stands s d t false q → (y ≡ over 0 (words_in transactions (list_of q)) x) × (z ≡ over 0 (inputs_in (list_of q)) v)
+
+unfoldable pub NoBlock : List ℕ → ℕ → ℕ → ℕ → Type 0
+NoBlock s d a b = (t : List ℕ) (q : Rest) → Stands s d t false q → past_block a b q ≡ gone
 
 -- on the edges: an empty block; `((c ()))`, a transaction without boxes; `((a (1 2)) (c (3)))`, whose boxes stand in order; `((a b))` is no transaction,
 -- nor are `(())`, `(a ())`, `((a (1) 2))` and `((a ((1))))`

@@ -1,19 +1,13 @@
 -- The fields of a form, read one behind the other from what is left of its members: a number of a width, an id, one of two words, a number or a
 -- word in its place, a verdict. Once a member is not what the form wants, nothing is left (`gone`), and every field behind it finds nothing.
-use Rattle.std.specs.Prelude.{ℕ, ◌<◌, ◌≤◌, ◌≡◌, refl, Bool, true, false, List, [], ◌∷◌, length, drop, eqb}
+use Rattle.std.specs.Prelude.{ℕ, ◌≡◌, refl, Bool, true, false, List, [], ◌∷◌, eqb, Option, Some, None}
 use Rattle.words.specs.Lists.{pick}
 use Rattle.words.specs.Sums.{cap}
 use Rattle.words.specs.declared.ids.Id.{Id}
-use Rattle.forms.specs.Text.{Members, none, word, sub, Reads}
+use Rattle.forms.specs.Text.{Members, none, word, sub, Reads, Behind}
 use Rattle.forms.specs.Nums.{decimal, id_read, is_digits, more, digit_of}
-use Rattle.forms.specs.declared.nums.Number.{Number}
-use Rattle.forms.specs.declared.nums.Number.TheVariants.{Value, NoNumber}
-use Rattle.forms.specs.declared.nums.IdRead.{IdRead}
-use Rattle.forms.specs.declared.nums.IdRead.TheVariants.{Of, NoId}
-use Rattle.lines.specs.declared.fields.Verdict.{Verdict}
-use Rattle.lines.specs.declared.fields.Verdict.TheVariants.{Valid, Invalid, NoVerdict}
-use Rattle.lines.specs.declared.fields.Optional.{Optional}
-use Rattle.lines.specs.declared.fields.Optional.TheVariants.{Some, Absent}
+use Rattle.pool_types.specs.declared.Verdict.{Verdict}
+use Rattle.pool_types.specs.declared.Verdict.TheVariants.{Valid, Invalid, Absent}
 
 -- what is left of a list's members
 pub data Rest : Type 0 where
@@ -66,13 +60,13 @@ module _ {A : Type 0} where
   unfoldable pub past : Kind A → Rest → Rest
   past k s = pick (k.ok (word_of s)) (past_word s) gone
 
-abbrev pub value_or0 : Number → ℕ
-value_or0 (Value v) = v
-value_or0 NoNumber = 0
+abbrev pub value_or0 : Option ℕ → ℕ
+value_or0 (Some v) = v
+value_or0 None = 0
 
-abbrev pub is_value : Number → Bool
-is_value (Value v) = true
-is_value NoNumber = false
+abbrev pub is_value : Option ℕ → Bool
+is_value (Some v) = true
+is_value None = false
 
 -- a decimal number of at most `limit`
 unfoldable pub numbers : ℕ → Kind ℕ
@@ -85,13 +79,13 @@ number64 = numbers cap
 abbrev pub number32 : Kind ℕ
 number32 = numbers 4294967295
 
-abbrev pub id_or0 : IdRead → Id
-id_or0 (Of x) = x
-id_or0 NoId = record { a = 0; b = 0; c = 0; d = 0 }
+abbrev pub id_or0 : Option Id → Id
+id_or0 (Some x) = x
+id_or0 None = record { a = 0; b = 0; c = 0; d = 0 }
 
-abbrev pub is_of : IdRead → Bool
-is_of (Of x) = true
-is_of NoId = false
+abbrev pub is_of : Option Id → Bool
+is_of (Some x) = true
+is_of None = false
 
 unfoldable pub ids : Kind Id
 ids = record { of = λ w. id_or0 (id_read w); ok = λ w. is_of (id_read w) }
@@ -103,13 +97,17 @@ same [] (b ∷ t) = false
 same (a ∷ s) [] = false
 same (a ∷ s) (b ∷ t) = pick (eqb a b) (same s t) false
 
--- one of two words: 1 for the first, 0 for the second
-unfoldable pub choices : List ℕ → List ℕ → Kind ℕ
-choices y n = record { of = λ w. pick (same w y) 1 0; ok = λ w. pick (same w y) true (same w n) }
+-- one of two words, the first for a and the second for b
+unfoldable pub either : {A : Type 0} → List ℕ → A → List ℕ → A → Kind A
+either y a n b = record { of = λ w. pick (same w y) a b; ok = λ w. pick (same w y) true (same w n) }
+
+-- 1 for the first, 0 for the second
+abbrev pub choices : List ℕ → List ℕ → Kind ℕ
+choices y n = either y 1 n 0
 
 -- a number, or a word in its place ("PEER is a number or `local`", "MEASURED a number or `none`")
-unfoldable pub optional : List ℕ → Kind Optional
-optional v = record { of = λ w. pick (same w v) Absent (Some (value_or0 (decimal cap w))); ok = λ w. pick (same w v) true (is_value (decimal cap w)) }
+unfoldable pub optional : List ℕ → Kind (Option ℕ)
+optional v = record { of = λ w. pick (same w v) None (Some (value_or0 (decimal cap w))); ok = λ w. pick (same w v) true (is_value (decimal cap w)) }
 
 -- ---- a verdict: `(ok COST)`, `(bad)` or `(none)`
 
@@ -124,7 +122,7 @@ w_none = 110 ∷ 111 ∷ 110 ∷ 101 ∷ []
 
 -- what the members inside its brackets say, and whether they are a verdict's
 unfoldable pub judged : Rest → Verdict
-judged i = pick (same (word_of i) w_ok) (Valid (value number64 (past_word i))) (pick (same (word_of i) w_bad) Invalid NoVerdict)
+judged i = pick (same (word_of i) w_ok) (Valid (value number64 (past_word i))) (pick (same (word_of i) w_bad) Invalid Absent)
 
 unfoldable pub is_judged : Rest → Bool
 is_judged i = pick (same (word_of i) w_ok) (ended (past number64 (past_word i))) (pick (same (word_of i) w_bad) (ended (past_word i)) (pick (same (word_of i) w_none) (ended (past_word i)) false))
@@ -132,27 +130,40 @@ is_judged i = pick (same (word_of i) w_ok) (ended (past number64 (past_word i)))
 unfoldable pub past_verdict : Rest → Rest
 past_verdict s = pick (is_judged (list_of s)) (past_list s) gone
 
--- ---- what a reader of a field at a place of a line says, for whatever members stand there
+-- ---- what a reader of a field says, for whatever members stand there
 
--- s is what is left of the members from at on, at the depth d, of a list that ends before t
-unfoldable pub Stands : List ℕ → ℕ → List ℕ → ℕ → Bool → Rest → Type 0
-Stands l d t at g gone = length l ≤ at
-Stands l d t at g (here m) = Reads d g (drop at l) m t
+-- s is what is left of a line where, of a list at the depth d that ends before t, the members z are left
+unfoldable pub Stands : List ℕ → ℕ → List ℕ → Bool → Rest → Type 0
+Stands s d t g gone = ⊥
+Stands s d t g (here m) = Reads d g s m t
 
--- the field's value, and the place behind it
-pub record FieldAt {A : Type 0} (k : Kind A) (l : List ℕ) (at : ℕ) (g : Bool) (v : A) (next : ℕ) : Type 0 where
-  pub inside : next ≤ length l
-  pub ahead : at < length l → at < next
-  pub is : (d : ℕ) (t : List ℕ) (s : Rest) → Stands l d t at g s → (v ≡ value k s) × Stands l d t next false (past k s)
+-- the field's value, and what is left behind it
+pub record FieldAt {A : Type 0} (k : Kind A) (s : List ℕ) (g : Bool) (v : A) (r : List ℕ) : Type 0 where
+  pub behind : Behind s r
+  pub is : (d : ℕ) (t : List ℕ) (z : Rest) → Stands s d t g z → (v ≡ value k z) × Stands r d t false (past k z)
 
-unfoldable pub JudgeAt : List ℕ → ℕ → Verdict → Bool → Type 0
-JudgeAt l at v b = (d : ℕ) (t : List ℕ) (i : Rest) → Stands l d t at true i → (v ≡ judged i) × (b ≡ is_judged i)
+-- the member that stands next is no such field
+unfoldable pub NoField : {A : Type 0} → Kind A → List ℕ → Bool → Type 0
+NoField k s g = (d : ℕ) (t : List ℕ) (z : Rest) → Stands s d t g z → past k z ≡ gone
 
-pub record VerdictAt (l : List ℕ) (at d : ℕ) (v : Verdict) (next : ℕ) : Type 0 where
-  pub inside : next ≤ length l
-  pub is : (t : List ℕ) (s : Rest) → Stands l d t at false s → (v ≡ judged (list_of s)) × Stands l d t next false (past_verdict s)
+-- what was read, where the list ends behind it
+unfoldable pub IfEnds : {A : Type 0} → List ℕ → A → Option A → Type 0
+IfEnds s v r = (d : ℕ) (t : List ℕ) (z : Rest) → Stands s d t false z → r ≡ pick (ended z) (Some v) None
+
+unfoldable pub JudgeAt : List ℕ → Verdict → Type 0
+JudgeAt s v = (d : ℕ) (t : List ℕ) (i : Rest) → Stands s d t true i → (v ≡ judged i) × (is_judged i ≡ true)
+
+unfoldable pub NoJudge : List ℕ → Type 0
+NoJudge s = (d : ℕ) (t : List ℕ) (i : Rest) → Stands s d t true i → is_judged i ≡ false
+
+pub record VerdictAt (s : List ℕ) (d : ℕ) (v : Verdict) (r : List ℕ) : Type 0 where
+  pub behind : Behind s r
+  pub is : (t : List ℕ) (z : Rest) → Stands s d t false z → (v ≡ judged (list_of z)) × Stands r d t false (past_verdict z)
+
+unfoldable pub NoVerdict : List ℕ → ℕ → Type 0
+NoVerdict s d = (t : List ℕ) (z : Rest) → Stands s d t false z → past_verdict z ≡ gone
 
 -- on the edges: `local` is no number; "08" is 8, and 9 is beyond 8; a list is no number
-field-edges : (value (optional (97 ∷ [])) (here (word (97 ∷ []) none)) ≡ Absent) × (value (optional (97 ∷ [])) (here (word (48 ∷ 56 ∷ []) none)) ≡ Some 8) × (past (numbers 8) (here (word (57 ∷ []) none)) ≡ gone) × (past (numbers 9) (here (sub none none)) ≡ gone)
+field-edges : (value (optional (97 ∷ [])) (here (word (97 ∷ []) none)) ≡ None) × (value (optional (97 ∷ [])) (here (word (48 ∷ 56 ∷ []) none)) ≡ Some 8) × (past (numbers 8) (here (word (57 ∷ []) none)) ≡ gone) × (past (numbers 9) (here (sub none none)) ≡ gone)
 unfolding value past numbers optional word_of past_word same decimal is_digits more digit_of
 field-edges = (refl, refl, refl, refl)

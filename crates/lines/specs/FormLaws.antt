@@ -1,5 +1,5 @@
 -- Laws of forms: a form that is read has lists that have room, its first word decides, and a line says one thing.
-use Rattle.std.specs.Prelude.{ℕ, ◌≤◌, ◌≡◌, refl, Bool, false, length, drop}
+use Rattle.std.specs.Prelude.{ℕ, ◌≤◌, ◌≡◌, refl, Bool, false, length, Option, Some, None, unwrap_or}
 use Rattle.std.proofs.Math.Path.{sym, ap, subst}
 use Rattle.std.proofs.Common.{◌∙◌}
 use Rattle.std.proofs.Math.Bool.{true}
@@ -11,13 +11,10 @@ use Rattle.lines.specs.declared.read.Form.{Form}
 use Rattle.lines.specs.declared.read.Form.TheVariants.{Unread}
 use Rattle.lines.specs.Fields.{Rest, gone, here, word_of, past_word, list_of, past_list, ended, Stands, same, is_judged, past_verdict}
 use Rattle.lines.specs.Items.{Item, all_in, fits, past_items}
-use Rattle.forms.specs.Text.{Members, Line, Reads, Opened, WordHere, part}
+use Rattle.forms.specs.Text.{Members, Line, Reads, Opened, NoLine, WordHere, NoWord}
 use Rattle.forms.specs.TextLaws.{line-once}
-use Rattle.forms.specs.declared.text.Past.{Past}
-use Rattle.forms.specs.declared.text.Past.TheVariants.{At, Not}
-use Rattle.forms.specs.declared.text.Span.TheVariants.{Is, Isnt}
 use Rattle.lines.specs.FieldLaws.{stands_word, stands-no-word}
-use Rattle.lines.specs.Forms.{is_read, FormAt, ListsAt, AnswerAt, ReadAt, tx_one, tx_two, return_one, return_two, block_one, block_two, answer_one, rebroadcast_one, one_of, two_of, worded, tx_of, return_of, block_of, answer_of, rebroadcast_of, change_of, query_of, measure_of, worded_of, form_of, w_tx, w_return, w_block, w_answer, w_rebroadcast}
+use Rattle.lines.specs.Forms.{is_read, whole, FormAt, ListsAt, AnswerAt, ReadAt, tx_one, tx_two, return_one, return_two, block_one, block_two, answer_one, rebroadcast_one, one_of, two_of, worded, tx_of, return_of, block_of, answer_of, rebroadcast_of, change_of, query_of, measure_of, worded_of, form_of, w_tx, w_return, w_block, w_answer, w_rebroadcast}
 
 -- ---- nothing is left behind a list that has no room
 
@@ -29,33 +26,41 @@ items-gone : (it : Item) (a : ℕ) → past_items it a gone ≡ gone
 unfolding past_items list_of
 items-gone it a = ap (λ (b : Bool). pick b (past_list gone) gone) (fits-gone it a)
 
-verdict-gone : ended (past_verdict gone) ≡ false
-unfolding past_verdict is_judged list_of word_of same ended
-verdict-gone = refl
-
 end-gone : ended gone ≡ false
 unfolding ended
 end-gone = refl
 
-no_room_left : (it : Item) (a : ℕ) (s : Rest) → fits it a (list_of s) ≡ false → past_items it a s ≡ gone
-unfolding past_items
-no_room_left it a s e = ap (λ (b : Bool). pick b (past_list s) gone) e
+-- a form whose last field leaves nothing is none
+pub unread-gone : (z : Rest) (f : Form) → z ≡ gone → Unread ≡ whole z f
+unread-gone z f e = sym (ap (λ (b : Bool). pick b f Unread) (ap ended e ∙ end-gone))
 
--- of what must have come to an end, the list has room
-room-if : (end : Rest → Bool) → end gone ≡ false → (it : Item) (a : ℕ) (s : Rest) → end (past_items it a s) ≡ true → fits it a (list_of s) ≡ true
-room-if end g it a s e = by_bool (fits it a (list_of s)) (λ p. p) (λ p. true-false e (ap end (no_room_left it a s p) ∙ g))
+-- nothing is left behind nothing
+pub items-then : (it : Item) (a : ℕ) (z : Rest) → z ≡ gone → past_items it a z ≡ gone
+items-then it a z e = ap (past_items it a) e ∙ items-gone it a
 
-pub verdict-room : (it : Item) (a : ℕ) (s : Rest) → ended (past_verdict (past_items it a s)) ≡ true → fits it a (list_of s) ≡ true
-verdict-room it a s e = room-if (λ z. ended (past_verdict z)) verdict-gone it a s e
+verdict-gone : past_verdict gone ≡ gone
+unfolding past_verdict is_judged list_of word_of same
+verdict-gone = refl
 
-pub end-room : (it : Item) (a : ℕ) (s : Rest) → ended (past_items it a s) ≡ true → fits it a (list_of s) ≡ true
-end-room it a s e = room-if ended end-gone it a s e
+pub verdict-then : (z : Rest) → z ≡ gone → past_verdict z ≡ gone
+verdict-then z e = ap past_verdict e ∙ verdict-gone
 
-pub verdict-room-2 : (i j : Item) (a b : ℕ) (s : Rest) → ended (past_verdict (past_items j b (past_items i a s))) ≡ true → fits i a (list_of s) ≡ true
-verdict-room-2 i j a b s e = room-if (λ z. ended (past_verdict (past_items j b z))) (ap (λ (z : Rest). ended (past_verdict z)) (items-gone j b) ∙ verdict-gone) i a s e
+pub whole-as : (z : Rest) (f g r : Form) → r ≡ whole z f → f ≡ g → r ≡ whole z g
+whole-as z f g r e q = e ∙ ap (λ (x : Form). whole z x) q
 
-pub end-room-2 : (i j : Item) (a b : ℕ) (s : Rest) → ended (past_items j b (past_items i a s)) ≡ true → fits i a (list_of s) ≡ true
-end-room-2 i j a b s e = room-if (λ z. ended (past_items j b z)) (ap ended (items-gone j b) ∙ end-gone) i a s e
+-- what was read, or no form
+pub or-unread : (z : Rest) (f : Form) (o : Option Form) → o ≡ pick (ended z) (Some f) None → unwrap_or o Unread ≡ whole z f
+or-unread z f o e = ap (λ (x : Option Form). unwrap_or x Unread) e ∙ go (ended z)
+  where
+    go : (b : Bool) → unwrap_or (pick b (Some f) None) Unread ≡ pick b f Unread
+    go true = refl
+    go false = refl
+
+pub none-unread : (o : Option Form) → o ≡ None → unwrap_or o Unread ≡ Unread
+none-unread o e = ap (λ (x : Option Form). unwrap_or x Unread) e
+
+pub none-no : {A : Type 0} (o : Option Form) → o ≡ None → is_read (unwrap_or o Unread) ≡ true → A
+none-no o e i = true-false (sym (ap is_read (none-unread o e)) ∙ i) refl
 
 -- a line that is not read says nothing of the slices
 pub unread-no : {A : Type 0} → is_read Unread ≡ true → A
@@ -77,8 +82,8 @@ at_first b x y e = ap (λ (z : Bool). pick z x y) e
 at_next : {A : Type 0} (b : Bool) (x y : A) → b ≡ false → pick b x y ≡ y
 at_next b x y e = ap (λ (z : Bool). pick z x y) e
 
-module _ (w l : List ℕ) (at : ℕ) (u y v z : List ℕ) (r : Form) where
-  pub worded-tx : same w w_tx ≡ true → ListsAt tx_of l at u y v z tx_one (tx_two (length u)) r → ListsAt (worded w) l at u y v z (one_of w) (two_of w (length u)) r
+module _ (w l u y v z : List ℕ) (r : Form) where
+  pub worded-tx : same w w_tx ≡ true → ListsAt tx_of l u y v z tx_one (tx_two (length u)) r → ListsAt (worded w) l u y v z (one_of w) (two_of w (length u)) r
   unfolding worded_of one_of two_of
   worded-tx e a =
       record {
@@ -88,7 +93,7 @@ module _ (w l : List ℕ) (at : ℕ) (u y v z : List ℕ) (r : Form) where
       }
 
   module _ (e1 : same w w_tx ≡ false) where
-    pub worded-return : same w w_return ≡ true → ListsAt return_of l at u y v z return_one (return_two (length u)) r → ListsAt (worded w) l at u y v z (one_of w) (two_of w (length u)) r
+    pub worded-return : same w w_return ≡ true → ListsAt return_of l u y v z return_one (return_two (length u)) r → ListsAt (worded w) l u y v z (one_of w) (two_of w (length u)) r
     unfolding worded_of one_of two_of
     worded-return e a =
         record {
@@ -98,7 +103,7 @@ module _ (w l : List ℕ) (at : ℕ) (u y v z : List ℕ) (r : Form) where
         }
 
     module _ (e2 : same w w_return ≡ false) where
-      pub worded-block : same w w_block ≡ true → ListsAt block_of l at u y v z block_one block_two r → ListsAt (worded w) l at u y v z (one_of w) (two_of w (length u)) r
+      pub worded-block : same w w_block ≡ true → ListsAt block_of l u y v z block_one block_two r → ListsAt (worded w) l u y v z (one_of w) (two_of w (length u)) r
       unfolding worded_of one_of two_of
       worded-block e a =
           record {
@@ -113,7 +118,7 @@ module _ (w l : List ℕ) (at : ℕ) (u y v z : List ℕ) (r : Form) where
         unfolding two_of
         none-two s = un ∙ ap (λ (x : List ℕ). over 0 x v) (sym (at_next (same w w_tx) (tx_two (length u) s) _ e1 ∙ at_next (same w w_return) (return_two (length u) s) _ e2 ∙ at_next (same w w_block) (block_two s) [] e3))
 
-        pub worded-answer : same w w_answer ≡ true → AnswerAt answer_of l at u y answer_one r → ListsAt (worded w) l at u y v z (one_of w) (two_of w (length u)) r
+        pub worded-answer : same w w_answer ≡ true → AnswerAt answer_of l u y answer_one r → ListsAt (worded w) l u y v z (one_of w) (two_of w (length u)) r
         unfolding worded_of one_of
         worded-answer e a =
             record {
@@ -123,7 +128,7 @@ module _ (w l : List ℕ) (at : ℕ) (u y v z : List ℕ) (r : Form) where
             }
 
         module _ (e4 : same w w_answer ≡ false) where
-          pub worded-rebroadcast : same w w_rebroadcast ≡ true → AnswerAt rebroadcast_of l at u y rebroadcast_one r → ListsAt (worded w) l at u y v z (one_of w) (two_of w (length u)) r
+          pub worded-rebroadcast : same w w_rebroadcast ≡ true → AnswerAt rebroadcast_of l u y rebroadcast_one r → ListsAt (worded w) l u y v z (one_of w) (two_of w (length u)) r
           unfolding worded_of one_of
           worded-rebroadcast e a =
               record {
@@ -133,7 +138,7 @@ module _ (w l : List ℕ) (at : ℕ) (u y v z : List ℕ) (r : Form) where
                 two = λ o t s h. none-two s;
               }
 
-          pub worded-change : same w w_rebroadcast ≡ false → y ≡ u → FormAt (change_of w) l at r → ListsAt (worded w) l at u y v z (one_of w) (two_of w (length u)) r
+          pub worded-change : same w w_rebroadcast ≡ false → y ≡ u → FormAt (change_of w) l r → ListsAt (worded w) l u y v z (one_of w) (two_of w (length u)) r
           unfolding worded_of one_of FormAt
           worded-change e k a =
               record {
@@ -145,58 +150,46 @@ module _ (w l : List ℕ) (at : ℕ) (u y v z : List ℕ) (r : Form) where
 
 -- ---- the line
 
-opened-at : (l : List ℕ) (a : ℕ) → Opened l (At a) → (m : Members) → Line m l → (t : List ℕ) × Reads 7 true (drop a l) m t
-unfolding Opened
-opened-at l a o m p = (o.1, subst (λ (n : Members). Reads 7 true (drop a l) n o.1) (line-once l o.0 m o.3 p) o.4)
+module _ (l u y v z : List ℕ) (r : Form) where
+  pub read-not : NoLine l → r ≡ Unread → ReadAt l u y v z r
+  read-not n p = record { is = λ m h. absurd (n m h); unread = λ f. p; one = λ i m h. absurd (n m h); two = λ i m h. absurd (n m h) }
 
-pub opened_in : (l : List ℕ) (q : Past) (a : ℕ) → Opened l q → q ≡ At a → a ≤ length l
-unfolding Opened
-opened_in l q a o e = (subst (λ (p : Past). Opened l p) e o).2
-
-module _ (l u y v z : List ℕ) (r : Form) (q : Past) (o : Opened l q) where
-  pub read-not : q ≡ Not → r ≡ Unread → ReadAt l u y v z r
-  unfolding Opened
-  read-not e p =
-      let n = subst (λ (k : Past). Opened l k) e o in
-      record { is = λ m h. absurd (n m h); unread = λ f. p; one = λ i m h. absurd (n m h); two = λ i m h. absurd (n m h) }
-
-  module _ (a : ℕ) (e : q ≡ At a) where
-    open_at : Opened l (At a)
-    open_at = subst (λ (k : Past). Opened l k) e o
-
-    stands : (m : Members) → Line m l → (t : List ℕ) × Stands l 7 t a true (here m)
-    unfolding Stands
-    stands m p = opened-at l a open_at m p
+  -- a is what is left behind the opening bracket of the line's form
+  module _ (a : List ℕ) (o : Opened l a) where
+    stands : (m : Members) → Line m l → (t : List ℕ) × Stands a 7 t true (here m)
+    unfolding Opened Stands
+    stands m p = (o.1, subst (λ (n : Members). Reads 7 true a n o.1) (line-once l o.0 m o.2 p) o.3)
 
     -- there is a form
     no_other : ((m : Members) → Line m l → ⊥) → r ≡ Unread
     unfolding Opened
-    no_other f = absurd (f open_at.0 open_at.3)
+    no_other f = absurd (f o.0 o.2)
 
-    pub read-no-word : ((d : ℕ) → WordHere l a true d Isnt) → r ≡ Unread → ReadAt l u y v z r
+    pub read-no-word : NoWord a true → r ≡ Unread → ReadAt l u y v z r
     unfolding form_of worded_of change_of query_of measure_of same
     read-no-word f p =
         record {
-          is = λ m h. let st = stands m h in let w = stands-no-word l a true 7 st.0 (f 7) (here m) st.1 in p ∙ sym (ap (λ (x : List ℕ). worded_of x (past_word (here m)) (length u) (length v)) w.0);
+          is = λ m h. let st = stands m h in
+              let w = stands-no-word a true 7 st.0 f (here m) st.1 in p ∙ sym (ap (λ (x : List ℕ). worded_of x (past_word (here m)) (length u) (length v)) w.0);
           unread = λ k. p;
           one = λ i. true-false (sym (ap is_read p) ∙ i) refl;
           two = λ i. true-false (sym (ap is_read p) ∙ i) refl;
         }
 
-    pub read_word : (b c : ℕ) → ((d : ℕ) → WordHere l a true d (Is b c)) → ListsAt (worded (part b c l)) l c u y v z (one_of (part b c l)) (two_of (part b c l) (length u)) r → ReadAt l u y v z r
+    pub read_word : (w b : List ℕ) → WordHere a true w b → ListsAt (worded w) b u y v z (one_of w) (two_of w (length u)) r → ReadAt l u y v z r
     unfolding form_of
-    read_word b c f k =
+    read_word w b f k =
         record {
           is = λ m h. let st = stands m h in
-              let w = stands_word l a true 7 st.0 b c (f 7) (here m) st.1 in
-              k.is st.0 (past_word (here m)) w.1 ∙ ap (λ (x : List ℕ). worded_of x (past_word (here m)) (length u) (length v)) (sym w.0);
+              let x = stands_word a true 7 st.0 w b f (here m) st.1 in
+              k.is st.0 (past_word (here m)) x.1 ∙ ap (λ (c : List ℕ). worded_of c (past_word (here m)) (length u) (length v)) (sym x.0);
           unread = no_other;
           one = λ i m h. let st = stands m h in
-              let w = stands_word l a true 7 st.0 b c (f 7) (here m) st.1 in
-              k.one i st.0 (past_word (here m)) w.1 ∙ ap (λ (x : List ℕ). over 0 (one_of x (past_word (here m))) u) (sym w.0);
+              let x = stands_word a true 7 st.0 w b f (here m) st.1 in
+              k.one i st.0 (past_word (here m)) x.1 ∙ ap (λ (c : List ℕ). over 0 (one_of c (past_word (here m))) u) (sym x.0);
           two = λ i m h. let st = stands m h in
-              let w = stands_word l a true 7 st.0 b c (f 7) (here m) st.1 in
-              k.two i st.0 (past_word (here m)) w.1 ∙ ap (λ (x : List ℕ). over 0 (two_of x (length u) (past_word (here m))) v) (sym w.0);
+              let x = stands_word a true 7 st.0 w b f (here m) st.1 in
+              k.two i st.0 (past_word (here m)) x.1 ∙ ap (λ (c : List ℕ). over 0 (two_of c (length u) (past_word (here m))) v) (sym x.0);
         }
 
 -- THEOREM: two spellings of one form are read equal, whatever spaces part their members

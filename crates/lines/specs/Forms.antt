@@ -1,15 +1,16 @@
 -- The forms of poolrun, from behind the first word. Document 01: "`pool` has the settings in the order of `MempoolConfig`, without the reward delay"; the
 -- other calls' forms are the project's (docs/FORMS.md). A form's members are its fields and no more.
 use Rattle.std.specs.Prelude.{ℕ, ◌≡◌, refl, Bool, true, false, [], ◌∷◌, length}
-use Rattle.std.proofs.Common.{sym, ap, ◌∙◌}
 use mathlib.Core.List as ListOf
 use Rattle.words.specs.Lists.{pick}
+use Rattle.pool_types.specs.declared.FeeStrategy.{FeeStrategy}
+use Rattle.pool_types.specs.declared.FeeStrategy.TheVariants.{FeePerByte, FeePerCycle}
 use Rattle.lines.specs.declared.read.Form.{Form}
 use Rattle.lines.specs.declared.read.Form.TheVariants.{Pool, Tx, Return, Block, Invalidate, Open, Next, Answer, Rebroadcast, List, Top, Len, Contains, Spending, Fee, Wait, Histogram, Charges, Written, Unread}
 use Rattle.lines.specs.declared.items.Records.TheVariants.{Boxes, Flags, Inputs, Heights, Outputs}
 use Rattle.forms.specs.Text.{Members, none, word, sub, Line}
 use Rattle.forms.specs.Nums.{over, decimal, id_read, is_hex, is_digits, more, digit_of, id_of_digits}
-use Rattle.lines.specs.Fields.{Rest, here, word_of, past_word, list_of, past_list, ended, Stands, value, past, number64, number32, numbers, ids, choices, optional, same, judged, past_verdict, w_none}
+use Rattle.lines.specs.Fields.{Rest, here, word_of, past_word, list_of, past_list, ended, Stands, value, past, number64, number32, numbers, ids, Kind, either, optional, same, judged, past_verdict, w_none}
 use Rattle.lines.specs.Items.{w_fee, item_of, boxes, words_of, words_in, all_ok, all_in, fits, count, count_in, count_of, past_items}
 use Rattle.lines.specs.Blocks.{transactions, tx_words, box_words, is_tx, box_list, inputs_of, inputs_in, fits_block, txs_count, inputs_count, past_block}
 
@@ -90,12 +91,16 @@ w_byte = 98 ∷ 121 ∷ 116 ∷ 101 ∷ []
 abbrev pub w_cycle : ListOf.List ℕ
 w_cycle = 99 ∷ 121 ∷ 99 ∷ 108 ∷ 101 ∷ []
 
+-- what a fee is reckoned by
+abbrev pub strategies : Kind FeeStrategy
+strategies = either w_byte FeePerByte w_cycle FeePerCycle
+
 -- `(pool CAPACITY MINFEE byte|cycle INTERVAL REBROADCAST TTL CACHE BLOCKLIMIT PEERLIMIT)`
 unfoldable pub pool_of : Rest → Form
 pool_of s =
     let s1 = past number64 s in
     let s2 = past number64 s1 in
-    let s3 = past (choices w_byte w_cycle) s2 in
+    let s3 = past strategies s2 in
     let s4 = past number64 s3 in
     let s5 = past number64 s4 in
     let s6 = past number64 s5 in
@@ -105,7 +110,7 @@ pool_of s =
     (Pool (record {
       capacity = value number64 s;
       min_fee = value number64 s1;
-      byte = value (choices w_byte w_cycle) s2;
+      strategy = value strategies s2;
       interval = value number64 s3;
       rebroadcast = value number64 s4;
       ttl = value number64 s5;
@@ -267,14 +272,14 @@ unfoldable pub form_of : ℕ → ℕ → Members → Form
 form_of a b m = worded_of (word_of (here m)) (past_word (here m)) a b
 
 -- what a form's reader says of its answer, for whatever members are left behind the form's first word
-unfoldable pub FormAt : (Rest → Form) → ListOf.List ℕ → ℕ → Form → Type 0
-FormAt of l at r = (d : ℕ) (t : ListOf.List ℕ) (s : Rest) → Stands l d t at false s → r ≡ of s
+unfoldable pub FormAt : (Rest → Form) → ListOf.List ℕ → Form → Type 0
+FormAt of l r = (d : ℕ) (t : ListOf.List ℕ) (s : Rest) → Stands l d t false s → r ≡ of s
 
 -- the same of a form that has lists: y and z are the slices u and v after it
-pub record ListsAt (of : ℕ → ℕ → Rest → Form) (l : ListOf.List ℕ) (at : ℕ) (u y v z : ListOf.List ℕ) (first second : Rest → ListOf.List ℕ) (r : Form) : Type 0 where
-  pub is : (t : ListOf.List ℕ) (s : Rest) → Stands l 7 t at false s → r ≡ of (length u) (length v) s
-  pub one : is_read r ≡ true → (t : ListOf.List ℕ) (s : Rest) → Stands l 7 t at false s → y ≡ over 0 (first s) u
-  pub two : is_read r ≡ true → (t : ListOf.List ℕ) (s : Rest) → Stands l 7 t at false s → z ≡ over 0 (second s) v
+pub record ListsAt (of : ℕ → ℕ → Rest → Form) (l : ListOf.List ℕ) (u y v z : ListOf.List ℕ) (first second : Rest → ListOf.List ℕ) (r : Form) : Type 0 where
+  pub is : (t : ListOf.List ℕ) (s : Rest) → Stands l 7 t false s → r ≡ of (length u) (length v) s
+  pub one : is_read r ≡ true → (t : ListOf.List ℕ) (s : Rest) → Stands l 7 t false s → y ≡ over 0 (first s) u
+  pub two : is_read r ≡ true → (t : ListOf.List ℕ) (s : Rest) → Stands l 7 t false s → z ≡ over 0 (second s) v
 
 -- the words of each form's lists
 unfoldable pub tx_one : Rest → ListOf.List ℕ
@@ -319,17 +324,9 @@ pub record ReadAt (l u y v z : ListOf.List ℕ) (r : Form) : Type 0 where
   pub two : is_read r ≡ true → (m : Members) → Line m l → z ≡ over 0 (two_of (word_of (here m)) (length u) (past_word (here m))) v
 
 -- a form of one list
-pub record AnswerAt (of : ℕ → Rest → Form) (l : ListOf.List ℕ) (at : ℕ) (x y : ListOf.List ℕ) (first : Rest → ListOf.List ℕ) (r : Form) : Type 0 where
-  pub is : (t : ListOf.List ℕ) (s : Rest) → Stands l 7 t at false s → r ≡ of (length x) s
-  pub one : is_read r ≡ true → (t : ListOf.List ℕ) (s : Rest) → Stands l 7 t at false s → y ≡ over 0 (first s) x
-
--- ---- its two answers
-
-pub is_whole : (b e : Bool) (f g : Form) → b ≡ e → b ≡ true → f ≡ g → f ≡ pick e g Unread
-is_whole b e f g p q r = r ∙ sym (ap (λ (z : Bool). pick z g Unread) (sym p ∙ q))
-
-pub is-not : (b e : Bool) (g : Form) → b ≡ e → b ≡ false → Unread ≡ pick e g Unread
-is-not b e g p q = sym (ap (λ (z : Bool). pick z g Unread) (sym p ∙ q))
+pub record AnswerAt (of : ℕ → Rest → Form) (l x y : ListOf.List ℕ) (first : Rest → ListOf.List ℕ) (r : Form) : Type 0 where
+  pub is : (t : ListOf.List ℕ) (s : Rest) → Stands l 7 t false s → r ≡ of (length x) s
+  pub one : is_read r ≡ true → (t : ListOf.List ℕ) (s : Rest) → Stands l 7 t false s → y ≡ over 0 (first s) x
 
 -- on the edges: `(list)` is a form and `(list 0)` is none; `(top 08)` is `(top 8)`; of `(fee 4294967296 1)` the first number is beyond its field; a list of
 -- lists has no first word

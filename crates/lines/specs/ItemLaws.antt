@@ -1,5 +1,5 @@
 -- Laws of lists of records: a record's words are written behind those before it, and what is left of the list says the rest.
-use Rattle.std.specs.Prelude.{ℕ, suc, ◌+◌, ◌-◌, ◌*◌, ◌<◌, ◌≤◌, ◌≡◌, Bool, set, leb}
+use Rattle.std.specs.Prelude.{ℕ, suc, ◌+◌, ◌-◌, ◌*◌, ◌<◌, ◌≤◌, ◌≡◌, Bool, set, leb, Option, MatchOption}
 use Rattle.std.proofs.Math.Path.{refl, sym, ap, ap₂, subst}
 use Rattle.std.proofs.Common.{◌∙◌, arith, add-suc, suc-mul, add-one, length-drop, take-append-drop, drop_at, take_at, le-leb}
 use Rattle.std.proofs.Math.Bool.{true, false}
@@ -12,15 +12,14 @@ use Rattle.words.specs.Lists.{pick}
 use Rattle.words.specs.Rows.{stored, puts}
 use Rattle.words.specs.Ids.{id_words}
 use Rattle.words.specs.declared.ids.Id.{Id}
-use Rattle.forms.specs.Text.{Members, none, word, sub, ListHere, EndHere}
-use Rattle.forms.specs.TextLaws.{true-false, by_bool, reads_end}
+use Rattle.forms.specs.Text.{Members, none, word, sub, NoList, ListHere, EndHere}
+use Rattle.forms.specs.TextLaws.{true-false, by_bool}
 use Rattle.forms.specs.Nums.{over}
 use Rattle.forms.specs.NumLaws.{id-none}
-use Rattle.forms.specs.declared.text.Span.TheVariants.{Is, Isnt}
 use Rattle.lines.specs.declared.items.Records.{Records}
-use Rattle.lines.specs.Fields.{Rest, gone, here, word_of, past_word, list_of, past_list, ended, Kind, past, ids, choices, number32, number64, is_of, same, Stands, FieldAt}
-use Rattle.lines.specs.FieldLaws.{stands-list, stands-no-list, stands-end, stands-gone}
-use Rattle.lines.specs.Items.{Item, item_of, w_set, w_not, w_fee, w_pay, word_item, list_item, input_words, is_input, height_words, is_height, output_words, is_output, words_of, all_ok, words_in, all_in, fits, count_of, past_items, count, count_in, past_one, ItemAt, ItemsAt, ListAt}
+use Rattle.lines.specs.Fields.{Rest, gone, here, word_of, past_word, list_of, past_list, ended, Kind, value, past, ids, either, choices, number32, number64, is_of, same, Stands, FieldAt, NoField}
+use Rattle.lines.specs.FieldLaws.{stands-list, stands-no-list, stands-end, list-behind, then-gone}
+use Rattle.lines.specs.Items.{Item, item_of, w_set, w_not, w_fee, w_pay, word_item, list_item, input_words, is_input, height_words, is_height, output_words, is_output, words_of, all_ok, words_in, all_in, fits, count_of, past_items, count, count_in, past_one, ItemAt, NoItem, ItemsAt, NoItems, ListAt, NoListed}
 
 -- ---- words written
 
@@ -34,6 +33,9 @@ stored-over vs l p h = go vs ∙ sets-eq vs l p h ∙ append_assoc (take p l) vs
     go : (vs : List ℕ) → stored l p vs ≡ sets l p vs
     go [] = refl
     go (v ∷ vs) = puts-sets vs (set l p v) p 1 ∙ rw add-one
+
+pub one-stored : (x : List ℕ) (k v : ℕ) → set x k v ≡ stored x k (v ∷ [])
+one-stored x k v = refl
 
 -- nothing written is the same words written
 module _ (x : List ℕ) (k w : ℕ) (h : k + w ≤ length x) where
@@ -62,266 +64,314 @@ module _ (x y ws : List ℕ) (k : ℕ) (h : k + length ws ≤ length x) (e : y �
   over-length : length y ≡ length x
   over-length = ap length split ∙ length-append (take k x ++ ws) (drop (k + length ws) x) ∙ omega (arith, front-is, length-drop (k + length ws) x)
 
+-- ---- what stands
+
+stands-pick : (s : List ℕ) (d : ℕ) (t : List ℕ) (g b : Bool) (z : Rest) → Stands s d t g (pick b z gone) → (b ≡ true) × Stands s d t g z
+unfolding Stands
+stands-pick s d t g true z h = (refl, h)
+stands-pick s d t g false z h = absurd h
+
+-- behind a word, and behind a list, one member less is left
+word-one : (s : List ℕ) (d : ℕ) (t : List ℕ) (g : Bool) (z : Rest) → Stands s d t g (past_word z) → Stands s d t g (past_one z)
+unfolding Stands past_word past_one
+word-one s d t g gone h = absurd h
+word-one s d t g (here none) h = absurd h
+word-one s d t g (here (word w n)) h = h
+word-one s d t g (here (sub i n)) h = absurd h
+
+pub list-one : (s : List ℕ) (d : ℕ) (t : List ℕ) (g : Bool) (z : Rest) → Stands s d t g (past_list z) → Stands s d t g (past_one z)
+unfolding Stands past_list past_one
+list-one s d t g gone h = absurd h
+list-one s d t g (here none) h = absurd h
+list-one s d t g (here (word w n)) h = absurd h
+list-one s d t g (here (sub i n)) h = h
+
+pub ends-gone : (z : Rest) → z ≡ gone → ended z ≡ false
+unfolding ended
+ends-gone z e = ap ended e
+
 -- ---- one record
 
 pub past-gone : {A : Type 0} (k : Kind A) → past k gone ≡ gone
-unfolding past past_word
-past-gone k = go (k.ok (word_of gone))
+past-gone k = then-gone k gone refl
+
+-- a word that is not what the kind wants leaves nothing
+word-no : {A : Type 0} (k : Kind A) → k.ok [] ≡ false → (z : Rest) → past k z ≡ gone → k.ok (word_of z) ≡ false
+unfolding past past_word word_of
+word-no k empty gone e = empty
+word-no k empty (here none) e = empty
+word-no k empty (here (sub i n)) e = empty
+word-no k empty (here (word w n)) e = by_bool (k.ok w) (λ p. absurd (let x : ◌≡◌ {A = ℕ} 1 0 = ap some (sym (ap (λ (b : Bool). pick b (here n) gone) p) ∙ e) in omega arith)) (λ p. p)
   where
-    go : (b : Bool) → pick b gone gone ≡ gone
-    go true = refl
-    go false = refl
+    some : Rest → ℕ
+    some gone = 0
+    some (here m) = 1
 
-past_word_is : {A : Type 0} (k : Kind A) → k.ok [] ≡ false → (s : Rest) → past k s ≡ pick (k.ok (word_of s)) (past_one s) gone
-unfolding past past_word past_one word_of
-past_word_is k e gone = refl
-past_word_is k e (here none) = refl
-past_word_is k e (here (word w n)) = refl
-past_word_is k e (here (sub i n)) = ap (λ (b : Bool). pick b gone gone) e ∙ sym (ap (λ (b : Bool). pick b (here n) gone) e)
-
-module _ {A : Type 0} (k : Kind A) (w : ℕ) (f : A → List ℕ) (e : (v : A) → length (f v) ≡ w) (none : k.ok [] ≡ false) where
-  pub item-word : (l : List ℕ) (at : ℕ) (g : Bool) (d i : ℕ) (x y : List ℕ) (v : A) (next : ℕ) → i + w ≤ length x → FieldAt k l at g v next → y ≡ stored x i (f v) → ItemAt (word_item k w f e) l at g d i x y next
-  item-word l at g d i x y v next room fa q =
+module _ {A : Type 0} (k : Kind A) (w : ℕ) (f : A → List ℕ) (e : (v : A) → length (f v) ≡ w) where
+  pub item-word : (s : List ℕ) (g : Bool) (d i : ℕ) (x y : List ℕ) (v : A) (r : List ℕ) → i + w ≤ length x → FieldAt k s g v r → y ≡ stored x i (f v) → ItemAt (word_item k w f e) s g d i x y r
+  unfolding past
+  item-word s g d i x y v r room fa q =
       record {
-        inside = fa.inside;
-        ahead = fa.ahead;
+        behind = fa.behind;
         words = f v;
         wide = e v;
         wrote = q ∙ stored-over (f v) x i (omega (arith, e v));
-        is = λ t s h. let r = fa.is d t s h in (λ o. ap f r.0, subst (λ (z : Rest). Stands l d t next false z) (past_word_is k none s) r.1);
+        is = λ t z h. let a = fa.is d t z h in
+            let b = stands-pick r d t false (k.ok (word_of z)) (past_word z) a.1 in
+            (b.0, ap f a.0, word-one r d t false z b.1);
       }
+
+  pub item-no-word : (s : List ℕ) (g : Bool) (d : ℕ) → k.ok [] ≡ false → NoField k s g → NoItem (word_item k w f e) s g d
+  unfolding NoItem NoField
+  item-no-word s g d empty n t z h = word-no k empty z (n d t z h)
 
 -- what the fields inside a record's brackets say
-unfoldable pub Inner : List ℕ → ℕ → (Rest → List ℕ) → (Rest → Bool) → List ℕ → Bool → Type 0
-Inner l a of ok ws b = (d : ℕ) (t : List ℕ) (i : Rest) → Stands l d t a true i → (ws ≡ of i) × (b ≡ ok i)
+unfoldable pub Inner : List ℕ → (Rest → List ℕ) → (Rest → Bool) → List ℕ → Type 0
+Inner v of ok ws = (d : ℕ) (t : List ℕ) (i : Rest) → Stands v d t true i → (ws ≡ of i) × (ok i ≡ true)
 
-pub past-list : (ok : Rest → Bool) → ok gone ≡ false → (s : Rest) → pick (ok (list_of s)) (past_list s) gone ≡ pick (ok (list_of s)) (past_one s) gone
-unfolding list_of past_list past_one
-past-list ok e gone = refl
-past-list ok e (here none) = refl
-past-list ok e (here (word w n)) = ap (λ (b : Bool). pick b gone gone) e ∙ sym (ap (λ (b : Bool). pick b (here n) gone) e)
-past-list ok e (here (sub i n)) = refl
+unfoldable pub NoInner : List ℕ → (Rest → Bool) → Type 0
+NoInner v ok = (d : ℕ) (t : List ℕ) (i : Rest) → Stands v d t true i → ok i ≡ false
 
-module _ (w : ℕ) (of : Rest → List ℕ) (ok : Rest → Bool) (e : (i : Rest) → length (of i) ≡ w) (none : ok gone ≡ false) (l : List ℕ) (at : ℕ) (g : Bool) (d k : ℕ) (x : List ℕ) (room : k + w ≤ length x) where
-  pub item-none : ListHere l at g d Isnt → ItemAt (list_item w of ok e) l at g d k x x (length l)
-  item-none f =
-      record {
-        inside = omega arith;
-        ahead = λ h. h;
-        words = take w (drop k x);
-        wide = same-words x k w room;
-        wrote = over-same x k w room;
-        is = λ t s h. let r = stands-no-list l at g d t f s h in
-            (λ o. true-false o (ap ok r.0 ∙ none), stands-gone l d t (length l) false _ (ap (λ (b : Bool). pick b (past_one s) gone) (ap ok r.0 ∙ none)) (omega arith));
-      }
+module _ (w : ℕ) (of : Rest → List ℕ) (ok : Rest → Bool) (e : (i : Rest) → length (of i) ≡ w) (s : List ℕ) (g : Bool) (d : ℕ) where
+  pub item-none : ok gone ≡ false → NoList s g d → NoItem (list_item w of ok e) s g d
+  unfolding NoItem
+  item-none empty f t z h = ap ok (stands-no-list s g d t f z h).0 ∙ empty
 
-  module _ (a m : ℕ) (f : ListHere l at g d (Is a m)) (ws : List ℕ) (b : Bool) (wide : length ws ≡ w) (j : Inner l a of ok ws b) (y : List ℕ) (put : y ≡ stored x k ws) where
-    pub item-yes : b ≡ true → ItemAt (list_item w of ok e) l at g d k x y m
-    unfolding Inner ListHere
-    item-yes p =
-        record {
-          inside = f.2;
-          ahead = λ h. omega (arith, f.0, f.1);
-          words = ws;
-          wide = wide;
-          wrote = put ∙ stored-over ws x k (omega arith);
-          is = λ t s h. let r = stands-list l at g d t a m f s h in
-              let q = j r.0 (drop m l) (list_of s) r.2 in
-              (λ o. q.0, subst (λ (z : Rest). Stands l d t m false z) (sym (ap (λ (z : Bool). pick z (past_list s) gone) (sym q.1 ∙ p)) ∙ past-list ok none s) r.3);
-        }
+  module _ (v r : List ℕ) (f : ListHere s g d v r) where
+    pub item-off : NoInner v ok → NoItem (list_item w of ok e) s g d
+    unfolding NoItem NoInner
+    item-off n t z h = let a = stands-list s g d t v r f z h in n a.0 r (list_of z) a.2
 
-    pub item-off : b ≡ false → ItemAt (list_item w of ok e) l at g d k x y (length l)
+    pub item-yes : (k : ℕ) (x : List ℕ) → k + w ≤ length x → (ws : List ℕ) → length ws ≡ w → Inner v of ok ws → (y : List ℕ) → y ≡ stored x k ws → ItemAt (list_item w of ok e) s g d k x y r
     unfolding Inner
-    item-off p =
+    item-yes k x room ws wide j y put =
         record {
-          inside = omega arith;
-          ahead = λ h. h;
+          behind = list-behind s g d v r f;
           words = ws;
           wide = wide;
           wrote = put ∙ stored-over ws x k (omega arith);
-          is = λ t s h. let r = stands-list l at g d t a m f s h in
-              let q = j r.0 (drop m l) (list_of s) r.2 in
-              (λ o. q.0, stands-gone l d t (length l) false _ (ap (λ (z : Bool). pick z (past_one s) gone) (sym q.1 ∙ p)) (omega arith));
+          is = λ t z h. let a = stands-list s g d t v r f z h in
+              let q = j a.0 r (list_of z) a.2 in
+              (q.1, q.0, list-one r d t false z a.3);
         }
 
 -- the fields of each kind of record
-module _ (l : List ℕ) (a : ℕ) (b : Bool) (x : Id) (n1 : ℕ) (f1 : FieldAt ids l a true x n1) where
-  pub inner-input : (c n2 : ℕ) → FieldAt (choices w_set w_not) l n1 false c n2 → EndHere l n2 false b → Inner l a input_words is_input (id_words x ++ (c ∷ [])) b
-  unfolding Inner input_words is_input
-  inner-input c n2 f2 en d t i h =
-      let p = f1.is d t i h in
-      let q = f2.is d t _ p.1 in
-      (λ u. id_words (p.0 u) ++ (q.0 u ∷ []), stands-end l n2 false d t b en _ q.1)
+pub no-id-input : (v : List ℕ) → NoField ids v true → NoInner v is_input
+unfolding NoInner NoField is_input
+no-id-input v n d t i h = ends-gone _ (then-gone (choices w_set w_not) _ (n d t i h))
 
-  pub inner-height : (c n2 : ℕ) → FieldAt number32 l n1 false c n2 → EndHere l n2 false b → Inner l a height_words is_height (id_words x ++ (c ∷ [])) b
-  unfolding Inner height_words is_height
-  inner-height c n2 f2 en d t i h =
-      let p = f1.is d t i h in
-      let q = f2.is d t _ p.1 in
-      (λ u. id_words (p.0 u) ++ (q.0 u ∷ []), stands-end l n2 false d t b en _ q.1)
+pub no-id-height : (v : List ℕ) → NoField ids v true → NoInner v is_height
+unfolding NoInner NoField is_height
+no-id-height v n d t i h = ends-gone _ (then-gone number32 _ (n d t i h))
 
-  pub inner-output : (c2 n2 c3 n3 c4 n4 : ℕ) → FieldAt number64 l n1 false c2 n2 → FieldAt (choices w_fee w_pay) l n2 false c3 n3 → FieldAt number32 l n3 false c4 n4 → EndHere l n4 false b
-      → Inner l a output_words is_output (id_words x ++ (c2 ∷ c3 ∷ c4 ∷ [])) b
-  unfolding Inner output_words is_output
-  inner-output c2 n2 c3 n3 c4 n4 f2 f3 f4 en d t i h =
-      let p = f1.is d t i h in
-      let q = f2.is d t _ p.1 in
-      let r = f3.is d t _ q.1 in
-      let u = f4.is d t _ r.1 in
-      (λ z. id_words (p.0 z) ++ (q.0 z ∷ r.0 z ∷ u.0 z ∷ []), stands-end l n4 false d t b en _ u.1)
+pub no-id-output : (v : List ℕ) → NoField ids v true → NoInner v is_output
+unfolding NoInner NoField is_output
+no-id-output v n d t i h = ends-gone _ (then-gone number32 _ (then-gone (choices w_fee w_pay) _ (then-gone number64 _ (n d t i h))))
+
+module _ (v : List ℕ) (x : Id) (n1 : List ℕ) (f1 : FieldAt ids v true x n1) where
+  pub no-flag : NoField (choices w_set w_not) n1 false → NoInner v is_input
+  unfolding NoInner NoField is_input
+  no-flag n d t i h = ends-gone _ (n d t _ (f1.is d t i h).1)
+
+  pub no-height : NoField number32 n1 false → NoInner v is_height
+  unfolding NoInner NoField is_height
+  no-height n d t i h = ends-gone _ (n d t _ (f1.is d t i h).1)
+
+  pub no-amount : NoField number64 n1 false → NoInner v is_output
+  unfolding NoInner NoField is_output
+  no-amount n d t i h = ends-gone _ (then-gone number32 _ (then-gone (choices w_fee w_pay) _ (n d t _ (f1.is d t i h).1)))
+
+  module _ (c : ℕ) (n2 : List ℕ) (b : Bool) (en : EndHere n2 false b) where
+    pub inner-input : FieldAt (choices w_set w_not) n1 false c n2 → b ≡ true → Inner v input_words is_input (id_words x ++ (c ∷ []))
+    unfolding Inner input_words is_input
+    inner-input f2 e d t i h =
+        let p = f1.is d t i h in
+        let q = f2.is d t _ p.1 in
+        (λ u. id_words (p.0 u) ++ (q.0 u ∷ []), sym (stands-end n2 false d t b en _ q.1) ∙ e)
+
+    pub no-input : FieldAt (choices w_set w_not) n1 false c n2 → b ≡ false → NoInner v is_input
+    unfolding NoInner is_input
+    no-input f2 e d t i h = sym (stands-end n2 false d t b en _ (f2.is d t _ (f1.is d t i h).1).1) ∙ e
+
+    pub inner-height : FieldAt number32 n1 false c n2 → b ≡ true → Inner v height_words is_height (id_words x ++ (c ∷ []))
+    unfolding Inner height_words is_height
+    inner-height f2 e d t i h =
+        let p = f1.is d t i h in
+        let q = f2.is d t _ p.1 in
+        (λ u. id_words (p.0 u) ++ (q.0 u ∷ []), sym (stands-end n2 false d t b en _ q.1) ∙ e)
+
+    pub no-height-end : FieldAt number32 n1 false c n2 → b ≡ false → NoInner v is_height
+    unfolding NoInner is_height
+    no-height-end f2 e d t i h = sym (stands-end n2 false d t b en _ (f2.is d t _ (f1.is d t i h).1).1) ∙ e
+
+  module _ (c2 : ℕ) (n2 : List ℕ) (f2 : FieldAt number64 n1 false c2 n2) where
+    pub no-fee : NoField (choices w_fee w_pay) n2 false → NoInner v is_output
+    unfolding NoInner NoField is_output
+    no-fee n d t i h = ends-gone _ (then-gone number32 _ (n d t _ (f2.is d t _ (f1.is d t i h).1).1))
+
+    module _ (c3 : ℕ) (n3 : List ℕ) (f3 : FieldAt (choices w_fee w_pay) n2 false c3 n3) where
+      pub no-output-height : NoField number32 n3 false → NoInner v is_output
+      unfolding NoInner NoField is_output
+      no-output-height n d t i h = ends-gone _ (n d t _ (f3.is d t _ (f2.is d t _ (f1.is d t i h).1).1).1)
+
+      module _ (c4 : ℕ) (n4 : List ℕ) (f4 : FieldAt number32 n3 false c4 n4) (b : Bool) (en : EndHere n4 false b) where
+        pub inner-output : b ≡ true → Inner v output_words is_output (id_words x ++ (c2 ∷ c3 ∷ c4 ∷ []))
+        unfolding Inner output_words is_output
+        inner-output e d t i h =
+            let p = f1.is d t i h in
+            let q = f2.is d t _ p.1 in
+            let r = f3.is d t _ q.1 in
+            let u = f4.is d t _ r.1 in
+            (λ z. id_words (p.0 z) ++ (q.0 z ∷ r.0 z ∷ u.0 z ∷ []), sym (stands-end n4 false d t b en _ u.1) ∙ e)
+
+        pub no-output : b ≡ false → NoInner v is_output
+        unfolding NoInner is_output
+        no-output e d t i h = sym (stands-end n4 false d t b en _ (f4.is d t _ (f3.is d t _ (f2.is d t _ (f1.is d t i h).1).1).1).1) ∙ e
 
 pub ids-none : ids.ok [] ≡ false
 unfolding ids
 ids-none = ap is_of (id-none [] refl)
 
 pub flags-none : (choices w_set w_not).ok [] ≡ false
-unfolding choices same
+unfolding either same
 flags-none = refl
 
 pub input-gone : is_input gone ≡ false
-unfolding is_input ended
-input-gone = ap (λ (z : Rest). ended (past (choices w_set w_not) z)) (past-gone ids) ∙ ap ended (past-gone (choices w_set w_not))
+unfolding is_input
+input-gone = ends-gone _ (then-gone (choices w_set w_not) _ (past-gone ids))
 
 pub height-gone : is_height gone ≡ false
-unfolding is_height ended
-height-gone = ap (λ (z : Rest). ended (past number32 z)) (past-gone ids) ∙ ap ended (past-gone number32)
+unfolding is_height
+height-gone = ends-gone _ (then-gone number32 _ (past-gone ids))
 
 pub output-gone : is_output gone ≡ false
-unfolding is_output ended
-output-gone =
-    ap (λ (z : Rest). ended (past number32 (past (choices w_fee w_pay) (past number64 z)))) (past-gone ids)
-    ∙ ap (λ (z : Rest). ended (past number32 (past (choices w_fee w_pay) z))) (past-gone number64)
-    ∙ ap (λ (z : Rest). ended (past number32 z)) (past-gone (choices w_fee w_pay))
-    ∙ ap ended (past-gone number32)
+unfolding is_output
+output-gone = ends-gone _ (then-gone number32 _ (then-gone (choices w_fee w_pay) _ (then-gone number64 _ (past-gone ids))))
 
--- ---- all records: reading on from i, over the words that were written, is reading from at
+-- ---- all records: reading on from r, over the words that were written, is reading from s
 
 unfoldable pub Tie : Item → List ℕ → ℕ → Rest → Rest → Type 0
-Tie it y k s gone = all_in it s ≡ false
-Tie it y k s (here n) = (all_in it s ≡ all_ok it n) × (all_ok it n ≡ true → words_in it s ≡ take k y ++ words_of it n)
+Tie it y k z gone = ⊥
+Tie it y k z (here n) = (all_in it z ≡ all_ok it n) × (all_ok it n ≡ true → words_in it z ≡ take k y ++ words_of it n)
 
-pub record Goes (it : Item) (l : List ℕ) (d at i : ℕ) (g : Bool) (x y : List ℕ) (k : ℕ) : Type 0 where
-  pub inside : i ≤ length l
+pub record Goes (it : Item) (s : List ℕ) (d : ℕ) (r : List ℕ) (g : Bool) (x y : List ℕ) (k : ℕ) : Type 0 where
   pub room : k ≤ length x
   pub same : length y ≡ length x
   pub kept : drop k y ≡ drop k x
-  pub read : (t : List ℕ) (s : Rest) → Stands l d t at true s → (n : Rest) × Stands l d t i g n × Tie it y k s n
+  pub read : (t : List ℕ) (z : Rest) → Stands s d t true z → (n : Rest) × Stands r d t g n × Tie it y k z n
 
-pub goes-start : (it : Item) (l : List ℕ) (d at : ℕ) (x : List ℕ) → at ≤ length l → Goes it l d at at true x x 0
-unfolding Tie all_in words_in
-goes-start it l d at x h = record { inside = h; room = omega arith; same = refl; kept = refl; read = λ t s r. (s, r, tie s) }
+pub goes-start : (it : Item) (s : List ℕ) (d : ℕ) (x : List ℕ) → Goes it s d s true x x 0
+unfolding Tie Stands all_in words_in
+goes-start it s d x = record { room = omega arith; same = refl; kept = refl; read = λ t z h. (z, h, tie t z h) }
   where
-    tie : (s : Rest) → Tie it x 0 s s
-    tie gone = refl
-    tie (here m) = (refl, λ o. refl)
+    tie : (t : List ℕ) (z : Rest) → Stands s d t true z → Tie it x 0 z z
+    tie t gone h = absurd h
+    tie t (here m) h = (refl, λ o. refl)
 
-module _ (it : Item) (l : List ℕ) (d at i : ℕ) (g : Bool) (x y : List ℕ) (k : ℕ) (o : Goes it l d at i g x y k) where
+module _ (it : Item) (s : List ℕ) (d : ℕ) (r : List ℕ) (g : Bool) (x y : List ℕ) (k : ℕ) (o : Goes it s d r g x y k) where
   -- one member m more, of which n is behind
-  member : (y' : List ℕ) (next : ℕ) (t : List ℕ) (s : Rest) (m n : Members) → (room : k + it.width ≤ length y) (a : ItemAt it l i g d k y y' next)
+  member : (y' next t : List ℕ) (z : Rest) (m n : Members) → (room : k + it.width ≤ length y) (a : ItemAt it r g d k y y' next)
       → all_ok it m ≡ pick (it.ok (here m)) (all_ok it n) false → words_of it m ≡ it.of (here m) ++ words_of it n → past_one (here m) ≡ here n
-      → Stands l d t i g (here m) → Tie it y k s (here m) → (n : Rest) × Stands l d t next false n × Tie it y' (k + it.width) s n
+      → Stands r d t g (here m) → Tie it y k z (here m) → (n : Rest) × Stands next d t false n × Tie it y' (k + it.width) z n
   unfolding Tie
-  member y' next t s m n room a am wm pm st ti =
+  member y' next t z m n room a am wm pm st ti =
       let q = a.is t (here m) st in
-      by_bool (it.ok (here m))
-      (λ e. let w = q.0 e in
-      let len : k + it.width ≡ k + length a.words = ap (λ (z : ℕ). k + z) (sym a.wide) in
-      let fr : take (k + it.width) y' ≡ take k y ++ a.words = ap (λ (z : ℕ). take z y') len ∙ over-front y y' a.words k (omega (arith, a.wide)) a.wrote in
-      let am' = am ∙ ap (λ (z : Bool). pick z (all_ok it n) false) e in (
+      let len : k + it.width ≡ k + length a.words = ap (λ (u : ℕ). k + u) (sym a.wide) in
+      let fr : take (k + it.width) y' ≡ take k y ++ a.words = ap (λ (u : ℕ). take u y') len ∙ over-front y y' a.words k (omega (arith, a.wide)) a.wrote in
+      let am' = am ∙ ap (λ (b : Bool). pick b (all_ok it n) false) q.0 in (
         here n,
-        subst (λ (z : Rest). Stands l d t next false z) (ap (λ (z : Bool). pick z (past_one (here m)) gone) e ∙ pm) q.1,
-        (ti.0 ∙ am', λ u. ti.1 (am' ∙ u) ∙ ap (λ (z : List ℕ). take k y ++ z) (wm ∙ ap (λ (z : List ℕ). z ++ words_of it n) (sym w)) ∙ sym (append_assoc (take k y) a.words (words_of it n)) ∙ ap (λ (z : List ℕ). z ++ words_of it n) (sym fr)),
-      ))
-      (λ e. (gone, subst (λ (z : Rest). Stands l d t next false z) (ap (λ (z : Bool). pick z (past_one (here m)) gone) e) q.1, ti.0 ∙ am ∙ ap (λ (z : Bool). pick z (all_ok it n) false) e))
+        subst (λ (u : Rest). Stands next d t false u) pm q.2,
+        (ti.0 ∙ am', λ u. ti.1 (am' ∙ u) ∙ ap (λ (c : List ℕ). take k y ++ c) (wm ∙ ap (λ (c : List ℕ). c ++ words_of it n) (sym q.1)) ∙ sym (append_assoc (take k y) a.words (words_of it n)) ∙ ap (λ (c : List ℕ). c ++ words_of it n) (sym fr)),
+      )
 
-  pub goes_on : (y' : List ℕ) (next : ℕ) → EndHere l i g false → k + it.width ≤ length y → ItemAt it l i g d k y y' next → Goes it l d at next false x y' (k + it.width)
+  pub goes_on : (y' next : List ℕ) → EndHere r g false → k + it.width ≤ length y → ItemAt it r g d k y y' next → Goes it s d next false x y' (k + it.width)
   unfolding Tie past_one all_ok words_of Stands
   goes_on y' next en room a =
-      let len : k + it.width ≡ k + length a.words = ap (λ (z : ℕ). k + z) (sym a.wide) in
+      let len : k + it.width ≡ k + length a.words = ap (λ (u : ℕ). k + u) (sym a.wide) in
       record {
-        inside = a.inside;
         room = omega (arith, o.same);
         same = over-length y y' a.words k (omega (arith, a.wide)) a.wrote ∙ o.same;
-        kept = ap (λ (z : ℕ). drop z y') len ∙ over-back y y' a.words k (omega (arith, a.wide)) a.wrote ∙ ap (λ (z : ℕ). drop z y) (sym len)
+        kept = ap (λ (u : ℕ). drop u y') len ∙ over-back y y' a.words k (omega (arith, a.wide)) a.wrote ∙ ap (λ (u : ℕ). drop u y) (sym len)
             ∙ sym (drop-drop it.width k y) ∙ ap (drop it.width) o.kept ∙ drop-drop it.width k x;
-        read = λ t s r. let q = o.read t s r in step t s q.0 q.1 q.2;
+        read = λ t z h. let q = o.read t z h in step t z q.0 q.1 q.2;
       }
     where
-      step : (t : List ℕ) (s n : Rest) → Stands l d t i g n → Tie it y k s n → (n : Rest) × Stands l d t next false n × Tie it y' (k + it.width) s n
-      step t s gone st ti = (gone, subst (λ (z : Rest). Stands l d t next false z) (nothing (it.ok gone)) (a.is t gone st).1, ti)
-        where
-          nothing : (b : Bool) → pick b gone gone ≡ gone
-          nothing true = refl
-          nothing false = refl
-      step t s (here none) st ti = absurd (en.not refl d none t st refl)
-      step t s (here (word w n)) st ti = member y' next t s (word w n) n room a refl refl refl st ti
-      step t s (here (sub j n)) st ti = member y' next t s (sub j n) n room a refl refl refl st ti
+      step : (t : List ℕ) (z n : Rest) → Stands r d t g n → Tie it y k z n → (n : Rest) × Stands next d t false n × Tie it y' (k + it.width) z n
+      step t z gone st ti = absurd st
+      step t z (here none) st ti = absurd (en.not refl d none t st refl)
+      step t z (here (word w n)) st ti = member y' next t z (word w n) n room a refl refl refl st ti
+      step t z (here (sub j n)) st ti = member y' next t z (sub j n) n room a refl refl refl st ti
 
-  pub ends-whole : EndHere l i g true → ItemsAt it l at d x y k true
+  pub ends-whole : EndHere r g true → ItemsAt it s d x y k
   unfolding Tie Stands fits count_of all_ok words_of
   ends-whole en =
       record {
         room = o.room;
-        is = λ t s r. let f = words t s r in (sym f.0, sym (ap (λ (z : Bool). pick z (length (words_in it s)) 0) f.0 ∙ f.1));
-        wrote = λ e t s r. let f = words t s r in
-            sym (take-append-drop k y) ∙ ap₂ (λ (u v : List ℕ). u ++ v) (sym f.2) (o.kept ∙ ap (λ (z : ℕ). drop z x) (let z : k ≡ 0 + length (words_in it s) = omega (arith, f.1) in z));
+        is = λ t z h. let f = words t z h in (
+          f.0,
+          sym (ap (λ (b : Bool). pick b (length (words_in it z)) 0) f.0 ∙ f.1),
+          sym (take-append-drop k y) ∙ ap₂ (λ (u v : List ℕ). u ++ v) (sym f.2) (o.kept ∙ ap (λ (u : ℕ). drop u x) (let e : k ≡ 0 + length (words_in it z) = omega (arith, f.1) in e)),
+        );
       }
     where
-      words : (t : List ℕ) (s : Rest) → Stands l d t at true s → (fits it (length x) s ≡ true) × (length (words_in it s) ≡ k) × (words_in it s ≡ take k y)
-      words t s r = let q = o.read t s r in go q.0 q.1 q.2
+      words : (t : List ℕ) (z : Rest) → Stands s d t true z → (fits it (length x) z ≡ true) × (length (words_in it z) ≡ k) × (words_in it z ≡ take k y)
+      words t z h = let q = o.read t z h in go q.0 q.1 q.2
         where
-          go : (n : Rest) → Stands l d t i g n → Tie it y k s n → (fits it (length x) s ≡ true) × (length (words_in it s) ≡ k) × (words_in it s ≡ take k y)
-          go gone st ti = absurd (omega (arith, en.inside refl))
+          go : (n : Rest) → Stands r d t g n → Tie it y k z n → (fits it (length x) z ≡ true) × (length (words_in it z) ≡ k) × (words_in it z ≡ take k y)
+          go gone st ti = absurd st
           go (here m) st ti =
               let e = en.is refl d m t st in
               let all = ti.0 ∙ ap (all_ok it) e in
-              let ws = ti.1 (ap (all_ok it) e) ∙ ap (λ (z : Members). take k y ++ words_of it z) e ∙ append-nil (take k y) in
-              let len : length (words_in it s) ≡ k = ap length ws ∙ length-take-le k y (omega (arith, o.room, o.same)) in
-              (ap₂ (λ (z u : Bool). pick z u false) all (le-leb (length (words_in it s)) (length x) (omega (arith, o.room))), len, ws)
+              let ws = ti.1 (ap (all_ok it) e) ∙ ap (λ (u : Members). take k y ++ words_of it u) e ∙ append-nil (take k y) in
+              let len : length (words_in it z) ≡ k = ap length ws ∙ length-take-le k y (omega (arith, o.room, o.same)) in
+              (ap₂ (λ (b c : Bool). pick b c false) all (le-leb (length (words_in it z)) (length x) (omega (arith, o.room))), len, ws)
 
-  no_items : ((t : List ℕ) (s : Rest) → Stands l d t at true s → fits it (length x) s ≡ false) → ItemsAt it l at d x y 0 false
-  unfolding count_of
-  no_items f = record { room = omega arith; is = λ t s r. (sym (f t s r), sym (ap (λ (z : Bool). pick z (length (words_in it s)) 0) (f t s r))); wrote = λ e. true-false e refl }
-
-  pub ends-line : length l ≤ i → ItemsAt it l at d x y 0 false
-  unfolding Tie Stands fits
-  ends-line h = no_items (λ t s r. let q = o.read t s r in go t s q.0 q.1 q.2)
+  -- the members that are left are no records, or their words have no room
+  no-fit : EndHere r g false
+      → ((z : Rest) (m n : Members) → (t : List ℕ) → Stands r d t g (here m) → all_ok it m ≡ pick (it.ok (here m)) (all_ok it n) false → words_of it m ≡ it.of (here m) ++ words_of it n → Tie it y k z (here m) → fits it (length x) z ≡ false)
+      → NoItems it s d (length x)
+  unfolding NoItems Tie Stands all_ok words_of
+  no-fit en f t z h = let q = o.read t z h in go q.0 q.1 q.2
     where
-      go : (t : List ℕ) (s n : Rest) → Stands l d t i g n → Tie it y k s n → fits it (length x) s ≡ false
-      go t s gone st ti = ap (λ (z : Bool). pick z (leb (length (words_in it s)) (length x)) false) ti
-      go t s (here m) st ti = absurd (reads_end l i d g m t h st)
+      go : (n : Rest) → Stands r d t g n → Tie it y k z n → fits it (length x) z ≡ false
+      go gone st ti = absurd st
+      go (here none) st ti = absurd (en.not refl d none t st refl)
+      go (here (word w n)) st ti = f z (word w n) n t st refl refl ti
+      go (here (sub j n)) st ti = f z (sub j n) n t st refl refl ti
 
-  pub ends-full : EndHere l i g false → length y - k < it.width → ItemsAt it l at d x y 0 false
-  unfolding Tie Stands fits all_ok words_of
-  ends-full en full = no_items (λ t s r. let q = o.read t s r in go t s q.0 q.1 q.2)
-    where
-      long : (s : Rest) (m n : Members) → all_ok it m ≡ pick (it.ok (here m)) (all_ok it n) false → words_of it m ≡ it.of (here m) ++ words_of it n → Tie it y k s (here m) → fits it (length x) s ≡ false
-      long s m n am wm ti =
-          by_bool (all_ok it m)
-          (λ e. let ws = ti.1 e ∙ ap (λ (z : List ℕ). take k y ++ z) wm in
-          let len = ap length ws ∙ length-append (take k y) (it.of (here m) ++ words_of it n) in
-          let two = length-append (it.of (here m)) (words_of it n) in
-          ap₂ (λ (z u : Bool). pick z u false) (ti.0 ∙ e) (lt-leb (length (words_in it s)) (length x) (omega (arith, it.wide (here m), length-take-le k y (omega (arith, o.room, o.same)), o.same))))
-          (λ e. ap (λ (z : Bool). pick z (leb (length (words_in it s)) (length x)) false) (ti.0 ∙ e))
+  pub ends-full : EndHere r g false → length y - k < it.width → NoItems it s d (length x)
+  unfolding Tie fits
+  ends-full en full =
+      no-fit en
+      (λ z m n t st am wm ti.
+      by_bool (all_ok it m)
+      (λ e. let ws = ti.1 e ∙ ap (λ (u : List ℕ). take k y ++ u) wm in
+      let len = ap length ws ∙ length-append (take k y) (it.of (here m) ++ words_of it n) in
+      let two = length-append (it.of (here m)) (words_of it n) in
+      ap₂ (λ (b c : Bool). pick b c false) (ti.0 ∙ e) (lt-leb (length (words_in it z)) (length x) (omega (arith, it.wide (here m), length-take-le k y (omega (arith, o.room, o.same)), o.same))))
+      (λ e. ap (λ (b : Bool). pick b (leb (length (words_in it z)) (length x)) false) (ti.0 ∙ e)))
 
-      go : (t : List ℕ) (s n : Rest) → Stands l d t i g n → Tie it y k s n → fits it (length x) s ≡ false
-      go t s gone st ti = none_left s ti
-        where
-          none_left : (s : Rest) → Tie it y k s gone → fits it (length x) s ≡ false
-          none_left s ti = ap (λ (z : Bool). pick z (leb (length (words_in it s)) (length x)) false) ti
-      go t s (here none) st ti = absurd (en.not refl d none t st refl)
-      go t s (here (word w n)) st ti = long s (word w n) n refl refl ti
-      go t s (here (sub j n)) st ti = long s (sub j n) n refl refl ti
+  pub ends-item : EndHere r g false → NoItem it r g d → NoItems it s d (length x)
+  unfolding Tie fits NoItem
+  ends-item en off =
+      no-fit en
+      (λ z m n t st am wm ti. ap (λ (b : Bool). pick b (leb (length (words_in it z)) (length x)) false) (ti.0 ∙ am ∙ ap (λ (b : Bool). pick b (all_ok it n) false) (off t (here m) st)))
 
   -- the same with the width as the code has it
-  pub goes_by : (y' : List ℕ) (next w : ℕ) → EndHere l i g false → k + it.width ≤ length y → ItemAt it l i g d k y y' next → w ≡ it.width → Goes it l d at next false x y' (k + w)
-  goes_by y' next w en room a e = subst (λ (z : ℕ). Goes it l d at next false x y' (k + z)) (sym e) (goes_on y' next en room a)
+  pub goes_by : (y' next : List ℕ) (w : ℕ) → EndHere r g false → k + it.width ≤ length y → ItemAt it r g d k y y' next → w ≡ it.width → Goes it s d next false x y' (k + w)
+  goes_by y' next w en room a e = subst (λ (z : ℕ). Goes it s d next false x y' (k + z)) (sym e) (goes_on y' next en room a)
 
-pub end_is : (l : List ℕ) (at : ℕ) (g r s : Bool) → EndHere l at g r → r ≡ s → EndHere l at g s
-end_is l at g r s f e = subst (λ (z : Bool). EndHere l at g z) e f
+pub end_is : (s : List ℕ) (g r b : Bool) → EndHere s g r → r ≡ b → EndHere s g b
+end_is s g r b f e = subst (λ (z : Bool). EndHere s g z) e f
 
-pub item-kind : (l : List ℕ) (at : ℕ) (g : Bool) (d k : ℕ) (x y : List ℕ) (next : ℕ) (r s : Records) → r ≡ s → ItemAt (item_of s) l at g d k x y next → ItemAt (item_of r) l at g d k x y next
-item-kind l at g d k x y next r s e a = subst (λ (z : Records). ItemAt (item_of z) l at g d k x y next) (sym e) a
+-- a record of any kind is one of that kind
+pub kind-room : (kind other : Records) (k n : ℕ) → kind ≡ other → k + (item_of kind).width ≤ n → k + (item_of other).width ≤ n
+kind-room kind other k n e h = subst (λ (z : Records). k + (item_of z).width ≤ n) e h
+
+pub item-kind : {A : Type 0} (kind other : Records) (s : List ℕ) (g : Bool) (d k : ℕ) (x y : List ℕ) (o : Option A) (now : A → List ℕ) → kind ≡ other
+    → MatchOption o (NoItem (item_of other) s g d) (λ r. ItemAt (item_of other) s g d k x y (now r)) → MatchOption o (NoItem (item_of kind) s g d) (λ r. ItemAt (item_of kind) s g d k x y (now r))
+item-kind kind other s g d k x y o now e a =
+    subst (λ (z : Records). MatchOption o (NoItem (item_of z) s g d) (λ r. ItemAt (item_of z) s g d k x y (now r))) (sym e) a
 
 -- ---- how many words there are
 
@@ -338,48 +388,33 @@ words-in-length it (here m) = words-length it m
 
 -- ---- a list as a field
 
-module _ (it : Item) (l : List ℕ) (at d : ℕ) (x : List ℕ) where
-  pub list-none : ListHere l at false d Isnt → ListAt it l at d x x 0 (length l)
-  unfolding count_of past_items fits all_in
-  list-none f =
-      record {
-        inside = omega arith;
-        room = omega arith;
-        is = λ t s h. let w = stands-no-list l at false d t f s h in
-            (sym (ap (λ (z : Bool). pick z (length (words_in it (list_of s))) 0) (no s w.0)), stands-gone l d t (length l) false (past_items it (length x) s) (ap (λ (z : Bool). pick z (past_list s) gone) (no s w.0)) (omega arith));
-        wrote = λ t s h e. true-false e (no s (stands-no-list l at false d t f s h).0);
-      }
-    where
-      no : (s : Rest) → list_of s ≡ gone → fits it (length x) (list_of s) ≡ false
-      no s e = ap (fits it (length x)) e
+module _ (it : Item) (s : List ℕ) (d : ℕ) where
+  pub list-none : (room : ℕ) → NoList s false d → NoListed it s d room
+  unfolding NoListed past_items fits all_in
+  list-none room f t z h =
+      let w = stands-no-list s false d t f z h in
+      ap₂ (λ (a b : Rest). pick (fits it room a) b gone) w.0 w.1
 
-  module _ (a e : ℕ) (f : ListHere l at false d (Is a e)) (y : List ℕ) (n : ℕ) (b : Bool) (j : ItemsAt it l a (d - 1) x y n b) where
-    inner : (t : List ℕ) (s : Rest) → Stands l d t at false s → Stands l (d - 1) (drop e l) a true (list_of s) × Stands l d t e false (past_list s)
-    inner t s h =
-        let w = stands-list l at false d t a e f s h in
-        let z : w.0 ≡ d - 1 = omega (arith, w.1) in
-        (subst (λ (m : ℕ). Stands l m (drop e l) a true (list_of s)) z w.2, w.3)
+  module _ (v r : List ℕ) (f : ListHere s false d v r) where
+    inner : (t : List ℕ) (z : Rest) → Stands s d t false z → Stands v (d - 1) r true (list_of z) × Stands r d t false (past_list z)
+    inner t z h =
+        let w = stands-list s false d t v r f z h in
+        let e : w.0 ≡ d - 1 = omega (arith, w.1) in
+        (subst (λ (m : ℕ). Stands v m r true (list_of z)) e w.2, w.3)
 
-    pub list-yes : b ≡ true → ListAt it l at d x y n e
-    unfolding past_items ListHere
-    list-yes p =
+    pub list-off : (room : ℕ) → NoItems it v (d - 1) room → NoListed it s d room
+    unfolding NoListed NoItems past_items
+    list-off room n t z h = ap (λ (b : Bool). pick b (past_list z) gone) (n r (list_of z) (inner t z h).0)
+
+    pub list-yes : (x y : List ℕ) (n : ℕ) → ItemsAt it v (d - 1) x y n → ListAt it s d x y n r
+    unfolding past_items
+    list-yes x y n j =
         record {
-          inside = f.2;
+          behind = list-behind s false d v r f;
           room = j.room;
-          is = λ t s h. let w = inner t s h in
-              let q = j.is (drop e l) (list_of s) w.0 in
-              (q.1, subst (λ (z : Bool). Stands l d t e false (pick z (past_list s) gone)) (sym p ∙ q.0) w.1);
-          wrote = λ t s h o. j.wrote p (drop e l) (list_of s) (inner t s h).0;
-        }
-
-    pub list-off : b ≡ false → ListAt it l at d x y 0 (length l)
-    unfolding past_items count_of
-    list-off p =
-        record {
-          inside = omega arith;
-          room = omega arith;
-          is = λ t s h. let q = j.is (drop e l) (list_of s) (inner t s h).0 in
-              let no = sym q.0 ∙ p in
-              (sym (ap (λ (z : Bool). pick z (length (words_in it (list_of s))) 0) no), stands-gone l d t (length l) false (past_items it (length x) s) (ap (λ (z : Bool). pick z (past_list s) gone) no) (omega arith));
-          wrote = λ t s h o. true-false o (sym (j.is (drop e l) (list_of s) (inner t s h).0).0 ∙ p);
+          is = λ t z h. let w = inner t z h in
+              let q = j.is r (list_of z) w.0 in
+              (q.1, subst (λ (b : Bool). Stands r d t false (pick b (past_list z) gone)) (sym q.0) w.1);
+          fit = λ t z h. (j.is r (list_of z) (inner t z h).0).0;
+          wrote = λ t z h. (j.is r (list_of z) (inner t z h).0).2;
         }

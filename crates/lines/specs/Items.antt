@@ -1,13 +1,13 @@
 -- Lists of records in a form, as the flat words that a call takes: inputs `(BOX set|not)`, outputs `(BOX VALUE fee|pay HEIGHT)`, a return's outputs
 -- `(BOX HEIGHT)`, box ids, and an answer's flags. Each record is one member of its list.
-use Rattle.std.specs.Prelude.{ℕ, suc, ◌≤◌, ◌<◌, ◌≡◌, refl, Bool, true, false, List, [], ◌∷◌, ◌++◌, length, leb}
+use Rattle.std.specs.Prelude.{ℕ, suc, ◌≤◌, ◌≡◌, refl, Bool, true, false, List, [], ◌∷◌, ◌++◌, length, leb}
 use Rattle.words.specs.Lists.{pick}
 use Rattle.words.specs.Ids.{id_words}
-use Rattle.forms.specs.Text.{Members, none, word, sub}
+use Rattle.forms.specs.Text.{Members, none, word, sub, Behind}
 use Rattle.forms.specs.Nums.{over, id_read, is_hex, is_digits, more, digit_of, id_of_digits}
 use Rattle.lines.specs.declared.items.Records.{Records}
 use Rattle.lines.specs.declared.items.Records.TheVariants.{Boxes, Flags, Inputs, Heights, Outputs}
-use Rattle.lines.specs.Fields.{Rest, gone, here, word_of, past_word, same, list_of, past_list, ended, Kind, value, past, ids, choices, number32, number64, Stands}
+use Rattle.lines.specs.Fields.{Rest, gone, here, word_of, past_word, same, list_of, past_list, ended, Kind, value, past, ids, either, choices, number32, number64, Stands}
 
 -- one record: its words, and whether the member that stands next is one
 pub record Item : Type 0 where
@@ -139,30 +139,40 @@ past_one (here (sub i n)) = here n
 
 -- ---- what the readers say
 
--- a reader of one record, which writes its words from index k on: y is x after it
-pub record ItemAt (it : Item) (l : List ℕ) (at : ℕ) (g : Bool) (d k : ℕ) (x y : List ℕ) (next : ℕ) : Type 0 where
-  pub inside : next ≤ length l
-  pub ahead : at < length l → at < next
+-- a reader of one record, which writes its words from index k on: y is x after it, and r is left
+pub record ItemAt (it : Item) (s : List ℕ) (g : Bool) (d k : ℕ) (x y r : List ℕ) : Type 0 where
+  pub behind : Behind s r
   pub words : List ℕ
   pub wide : length words ≡ it.width
   pub wrote : y ≡ over k words x
-  pub is : (t : List ℕ) (s : Rest) → Stands l d t at g s → (it.ok s ≡ true → words ≡ it.of s) × Stands l d t next false (pick (it.ok s) (past_one s) gone)
+  pub is : (t : List ℕ) (z : Rest) → Stands s d t g z → (it.ok z ≡ true) × (words ≡ it.of z) × Stands r d t false (past_one z)
 
--- a reader of all records of a list
-pub record ItemsAt (it : Item) (l : List ℕ) (at d : ℕ) (x y : List ℕ) (n : ℕ) (b : Bool) : Type 0 where
+-- the member that stands next is no such record
+unfoldable pub NoItem : Item → List ℕ → Bool → ℕ → Type 0
+NoItem it s g d = (t : List ℕ) (z : Rest) → Stands s d t g z → it.ok z ≡ false
+
+-- a reader of all records of a list, from behind its opening bracket: n words of them
+pub record ItemsAt (it : Item) (s : List ℕ) (d : ℕ) (x y : List ℕ) (n : ℕ) : Type 0 where
   pub room : n ≤ length x
-  pub is : (t : List ℕ) (s : Rest) → Stands l d t at true s → (b ≡ fits it (length x) s) × (n ≡ count_of it (length x) s)
-  pub wrote : b ≡ true → (t : List ℕ) (s : Rest) → Stands l d t at true s → y ≡ over 0 (words_in it s) x
+  pub is : (t : List ℕ) (z : Rest) → Stands s d t true z → (fits it (length x) z ≡ true) × (n ≡ count_of it (length x) z) × (y ≡ over 0 (words_in it z) x)
+
+-- some member is no such record, or their words have no room
+unfoldable pub NoItems : Item → List ℕ → ℕ → ℕ → Type 0
+NoItems it s d room = (t : List ℕ) (z : Rest) → Stands s d t true z → fits it room z ≡ false
 
 -- the same with the list's brackets, as a field
-pub record ListAt (it : Item) (l : List ℕ) (at d : ℕ) (x y : List ℕ) (n next : ℕ) : Type 0 where
-  pub inside : next ≤ length l
+pub record ListAt (it : Item) (s : List ℕ) (d : ℕ) (x y : List ℕ) (n : ℕ) (r : List ℕ) : Type 0 where
+  pub behind : Behind s r
   pub room : n ≤ length x
-  pub is : (t : List ℕ) (s : Rest) → Stands l d t at false s → (n ≡ count_of it (length x) (list_of s)) × Stands l d t next false (past_items it (length x) s)
-  pub wrote : (t : List ℕ) (s : Rest) → Stands l d t at false s → fits it (length x) (list_of s) ≡ true → y ≡ over 0 (words_in it (list_of s)) x
+  pub is : (t : List ℕ) (z : Rest) → Stands s d t false z → (n ≡ count_of it (length x) (list_of z)) × Stands r d t false (past_items it (length x) z)
+  pub fit : (t : List ℕ) (z : Rest) → Stands s d t false z → fits it (length x) (list_of z) ≡ true
+  pub wrote : (t : List ℕ) (z : Rest) → Stands s d t false z → y ≡ over 0 (words_in it (list_of z)) x
+
+unfoldable pub NoListed : Item → List ℕ → ℕ → ℕ → Type 0
+NoListed it s d room = (t : List ℕ) (z : Rest) → Stands s d t false z → past_items it room z ≡ gone
 
 -- on an edge: `((1 set))` is five words, and `((1 set) 2)` is no list of inputs
 item-edges : (words_of inputs (sub (word (49 ∷ []) (word w_set none)) none) ≡ 0 ∷ 0 ∷ 0 ∷ 1 ∷ 1 ∷ []) × (all_ok inputs (sub (word (49 ∷ []) (word w_set none)) none) ≡ true)
     × (all_ok inputs (sub (word (49 ∷ []) (word w_set none)) (word (50 ∷ []) none)) ≡ false)
-unfolding words_of all_ok inputs input_words is_input list_of word_of past_word ended value past ids choices same id_read is_hex is_digits more digit_of id_of_digits
+unfolding words_of all_ok inputs input_words is_input list_of word_of past_word ended value past ids either same id_read is_hex is_digits more digit_of id_of_digits
 item-edges = (refl, refl, refl)

@@ -1,137 +1,74 @@
 // The transactions of a block, read into two slices: a record for each, its id and the number of its boxes, and the boxes of all of them, in order.
-ghost use Rattle.std.specs.Prelude.{◌+◌, ◌≤◌, ◌<◌, length};
-ghost use Rattle.lines.specs.Blocks.{TxAt, TxsAt, BlockAt};
+ghost use Rattle.std.specs.Prelude.{◌+◌, ◌≤◌, ◌<◌, length, MatchOption};
+ghost use Rattle.lines.specs.Blocks.{TxAt, NoTx, TxsAt, NoTxs, BlockAt, NoBlock};
 
 use crate::fields::id;
-use crate::items::{ListField, Records, list_field};
-use forms::text::{Span, end_here, list_here};
+use crate::items::{Records, list_field};
+use forms::text::{ends, inside};
 use words::ids::put_id;
 
-// The words that were written into both slices, and the place behind the list.
-#[derive(Clone, Copy)]
-pub struct BlockField {
-    pub transactions: usize,
-    pub inputs: usize,
-    pub next: usize,
-}
-
-// The words that were written, and whether the list was read whole.
-#[derive(Clone, Copy)]
-struct Transactions {
-    transactions: usize,
-    inputs: usize,
-    whole: bool,
-}
-
-// A transaction: `(ID (BOX..))`. Its record goes into `first` from `k` on, its boxes into `tail`.
-fn put_tx(
-    line: &[u8],
-    at: usize,
+// A transaction: `(ID (BOX..))`. Its record goes into `first` from `k` on, its boxes into `tail`: so many words.
+fn put_tx<'a>(
+    rest: &'a [u8],
     gap: bool,
     depth: usize,
     first: &mut [u64],
     k: usize,
     tail: &mut [u64],
-) -> ListField
-    requires { (at ≤ length line.now) × (1 < depth) × (k + 5 ≤ length first.old) }
-    ensures { TxAt line.now at gap depth k first.old first.new tail.old tail.new result.words result.next }
+) -> Option<(usize, &'a [u8])>
+    requires { (1 < depth) × (k + 5 ≤ length first.old) }
+    ensures { MatchOption result (NoTx rest.now gap depth (length tail.old)) (λ p. TxAt rest.now gap depth k first.old first.new tail.old tail.new p.0 p.1.now) }
 {
-    let Span::Is(a, e) = list_here(line, at, gap, depth) else {
-        return ListField {
-            words: 0,
-            next: line.len(),
-        };
-    };
-    let x = id(line, a, true);
-    let boxes = list_field(line, x.next, depth - 1, Records::Boxes, tail);
-    let value = x.value;
-    if end_here(line, boxes.next, false) {
-        put_id(first, k, value);
-        first[k + 4] = (boxes.words / 4) as u64;
-        return ListField {
-            words: boxes.words,
-            next: e,
-        };
+    let (inside, behind) = inside(rest, gap, depth)?;
+    let (id, rest) = id(inside, true)?;
+    let (words, rest) = list_field(rest, depth - 1, Records::Boxes, tail)?;
+    if !ends(rest, false) {
+        return None;
     }
-    ListField {
-        words: 0,
-        next: line.len(),
-    }
+    put_id(first, k, id);
+    first[k + 4] = (words / 4) as u64;
+    Some((words, behind))
 }
 
-// All transactions of a block, from behind the list's opening bracket.
+// All transactions of a block, from behind the list's opening bracket: the words that were written into both slices.
 fn all_txs(
-    line: &[u8],
-    at: usize,
+    inside: &[u8],
     depth: usize,
     first: &mut [u64],
     second: &mut [u64],
-) -> Transactions
-    requires { (at ≤ length line.now) × (1 < depth) }
-    ensures { TxsAt line.now at depth first.old first.new second.old second.new result.transactions result.inputs result.whole }
+) -> Option<(usize, usize)>
+    requires { 1 < depth }
+    ensures { MatchOption result (NoTxs inside.now depth (length first.old) (length second.old)) (λ p. TxsAt inside.now depth first.old first.new second.old second.new p.0 p.1) }
 {
-    let mut i = at;
+    let mut rest = inside;
     let mut gap = true;
     let mut k = 0;
     let mut j = 0;
-    while i < line.len() {
-        if end_here(line, i, gap) {
-            return Transactions {
-                transactions: k,
-                inputs: j,
-                whole: true,
-            };
-        }
+    while !ends(rest, gap) {
         if first.len() - k < 5 {
-            return Transactions {
-                transactions: 0,
-                inputs: 0,
-                whole: false,
-            };
+            return None;
         }
         let from = j;
-        let tx = put_tx(line, i, gap, depth, first, k, &mut second[from..]);
-        i = tx.next;
+        let (words, behind) = put_tx(rest, gap, depth, first, k, &mut second[from..])?;
+        rest = behind;
         gap = false;
         k += 5;
-        j += tx.words;
+        j += words;
     }
-    Transactions {
-        transactions: 0,
-        inputs: 0,
-        whole: false,
-    }
+    Some((k, j))
 }
 
-// The list of a block's transactions.
-pub fn block_field(
-    line: &[u8],
-    at: usize,
+// The list of a block's transactions: the words that were written into both slices, and what is left behind the list.
+pub fn block_field<'a>(
+    rest: &'a [u8],
     depth: usize,
     first: &mut [u64],
     second: &mut [u64],
-) -> BlockField
-    requires { (at ≤ length line.now) × (2 < depth) }
-    ensures { BlockAt line.now at depth first.old first.new second.old second.new result.transactions result.inputs result.next }
+) -> Option<(usize, usize, &'a [u8])>
+    requires { 2 < depth }
+    ensures { MatchOption result (NoBlock rest.now depth (length first.old) (length second.old)) (λ p. BlockAt rest.now depth first.old first.new second.old second.new p.0 p.1 p.2.now) }
 {
-    let Span::Is(a, e) = list_here(line, at, false, depth) else {
-        return BlockField {
-            transactions: 0,
-            inputs: 0,
-            next: line.len(),
-        };
-    };
-    let inside = all_txs(line, a, depth - 1, first, second);
-    if inside.whole {
-        return BlockField {
-            transactions: inside.transactions,
-            inputs: inside.inputs,
-            next: e,
-        };
-    }
-    BlockField {
-        transactions: 0,
-        inputs: 0,
-        next: line.len(),
-    }
+    let (inside, rest) = inside(rest, false, depth)?;
+    let (transactions, inputs) = all_txs(inside, depth - 1, first, second)?;
+    Some((transactions, inputs, rest))
 }

@@ -1,11 +1,11 @@
 // Lists of records in a form, read into flat words.
-ghost use Rattle.std.specs.Prelude.{◌≡◌, ◌+◌, ◌≤◌, ◌<◌, [], ◌∷◌, ◌++◌, length};
+ghost use Rattle.std.specs.Prelude.{◌≡◌, ◌+◌, ◌≤◌, ◌<◌, [], ◌∷◌, ◌++◌, length, MatchOption};
 ghost use Rattle.words.specs.Rows.{stored};
 ghost use Rattle.words.specs.Ids.{id_words};
-ghost use Rattle.lines.specs.Items.{ItemAt, ItemsAt, ListAt, item_of, boxes, flags, inputs, heights, outputs};
+ghost use Rattle.lines.specs.Items.{ItemAt, NoItem, ItemsAt, NoItems, ListAt, NoListed, item_of, boxes, flags, inputs, heights, outputs};
 
-use crate::fields::{choice, id, number, number64};
-use forms::text::{Span, end_here, list_here};
+use crate::fields::{choice, id, number32, number64};
+use forms::text::{ends, inside};
 use words::ids::{Id, put_id};
 
 // The kinds of records.
@@ -16,20 +16,6 @@ pub enum Records {
     Inputs,
     Heights,
     Outputs,
-}
-
-// The number of words that were written, and the place behind the list.
-#[derive(Clone, Copy)]
-pub struct ListField {
-    pub words: usize,
-    pub next: usize,
-}
-
-// The words that were written, and whether the list was read whole.
-#[derive(Clone, Copy)]
-struct Items {
-    words: usize,
-    whole: bool,
 }
 
 fn width(kind: Records) -> usize
@@ -44,63 +30,82 @@ fn width(kind: Records) -> usize
     }
 }
 
+// Each record is written into the free part of `out`, from `k` on.
+
 // A box id.
-fn put_box(line: &[u8], at: usize, gap: bool, depth: usize, out: &mut [u64], k: usize) -> usize
-    requires { (at ≤ length line.now) × (k + 4 ≤ length out.old) }
-    ensures { ItemAt boxes line.now at gap depth k out.old out.new result }
+fn put_box<'a>(
+    rest: &'a [u8],
+    gap: bool,
+    depth: usize,
+    out: &mut [u64],
+    k: usize,
+) -> Option<&'a [u8]>
+    requires { k + 4 ≤ length out.old }
+    ensures { MatchOption result (NoItem boxes rest.now gap depth) (λ r. ItemAt boxes rest.now gap depth k out.old out.new r.now) }
 {
-    let x = id(line, at, gap);
-    let value = x.value;
-    put_id(out, k, value);
-    x.next
+    let (id, rest) = id(rest, gap)?;
+    put_id(out, k, id);
+    Some(rest)
 }
 
 // A flag: `set` or `not`.
-fn put_flag(line: &[u8], at: usize, gap: bool, depth: usize, out: &mut [u64], k: usize) -> usize
-    requires { (at ≤ length line.now) × (k + 1 ≤ length out.old) }
-    ensures { ItemAt flags line.now at gap depth k out.old out.new result }
+fn put_flag<'a>(
+    rest: &'a [u8],
+    gap: bool,
+    depth: usize,
+    out: &mut [u64],
+    k: usize,
+) -> Option<&'a [u8]>
+    requires { k + 1 ≤ length out.old }
+    ensures { MatchOption result (NoItem flags rest.now gap depth) (λ r. ItemAt flags rest.now gap depth k out.old out.new r.now) }
 {
-    let flag = choice(line, at, gap, b"set", b"not");
-    out[k] = flag.value;
-    flag.next
+    let (flag, rest) = choice(rest, gap, b"set", 1, b"not", 0)?;
+    out[k] = flag;
+    Some(rest)
 }
 
 // An input of a submission: `(BOX set|not)`.
-fn put_input(line: &[u8], at: usize, gap: bool, depth: usize, out: &mut [u64], k: usize) -> usize
-    requires { (at ≤ length line.now) × (k + 5 ≤ length out.old) }
-    ensures { ItemAt inputs line.now at gap depth k out.old out.new result }
+fn put_input<'a>(
+    rest: &'a [u8],
+    gap: bool,
+    depth: usize,
+    out: &mut [u64],
+    k: usize,
+) -> Option<&'a [u8]>
+    requires { k + 5 ≤ length out.old }
+    ensures { MatchOption result (NoItem inputs rest.now gap depth) (λ r. ItemAt inputs rest.now gap depth k out.old out.new r.now) }
 {
-    let Span::Is(a, e) = list_here(line, at, gap, depth) else {
-        return line.len();
-    };
-    let x = id(line, a, true);
-    let flag = choice(line, x.next, false, b"set", b"not");
-    let value = x.value;
-    put_id(out, k, value);
-    out[k + 4] = flag.value;
-    if end_here(line, flag.next, false) {
-        return e;
+    let (inside, behind) = inside(rest, gap, depth)?;
+    let (id, rest) = id(inside, true)?;
+    let (flag, rest) = choice(rest, false, b"set", 1, b"not", 0)?;
+    if !ends(rest, false) {
+        return None;
     }
-    line.len()
+    put_id(out, k, id);
+    out[k + 4] = flag;
+    Some(behind)
 }
 
 // An output of a return: `(BOX HEIGHT)`.
-fn put_height(line: &[u8], at: usize, gap: bool, depth: usize, out: &mut [u64], k: usize) -> usize
-    requires { (at ≤ length line.now) × (k + 5 ≤ length out.old) }
-    ensures { ItemAt heights line.now at gap depth k out.old out.new result }
+fn put_height<'a>(
+    rest: &'a [u8],
+    gap: bool,
+    depth: usize,
+    out: &mut [u64],
+    k: usize,
+) -> Option<&'a [u8]>
+    requires { k + 5 ≤ length out.old }
+    ensures { MatchOption result (NoItem heights rest.now gap depth) (λ r. ItemAt heights rest.now gap depth k out.old out.new r.now) }
 {
-    let Span::Is(a, e) = list_here(line, at, gap, depth) else {
-        return line.len();
-    };
-    let x = id(line, a, true);
-    let height = number(line, x.next, 4294967295);
-    let value = x.value;
-    put_id(out, k, value);
-    out[k + 4] = height.value;
-    if end_here(line, height.next, false) {
-        return e;
+    let (inside, behind) = inside(rest, gap, depth)?;
+    let (id, rest) = id(inside, true)?;
+    let (height, rest) = number32(rest)?;
+    if !ends(rest, false) {
+        return None;
     }
-    line.len()
+    put_id(out, k, id);
+    out[k + 4] = height as u64;
+    Some(behind)
 }
 
 // The words of an output.
@@ -115,99 +120,79 @@ fn put_seven(out: &mut [u64], k: usize, x: Id, amount: u64, fee: u64, height: u6
 }
 
 // An output of a submission: `(BOX VALUE fee|pay HEIGHT)`.
-fn put_output(line: &[u8], at: usize, gap: bool, depth: usize, out: &mut [u64], k: usize) -> usize
-    requires { (at ≤ length line.now) × (k + 7 ≤ length out.old) }
-    ensures { ItemAt outputs line.now at gap depth k out.old out.new result }
+fn put_output<'a>(
+    rest: &'a [u8],
+    gap: bool,
+    depth: usize,
+    out: &mut [u64],
+    k: usize,
+) -> Option<&'a [u8]>
+    requires { k + 7 ≤ length out.old }
+    ensures { MatchOption result (NoItem outputs rest.now gap depth) (λ r. ItemAt outputs rest.now gap depth k out.old out.new r.now) }
 {
-    let Span::Is(a, e) = list_here(line, at, gap, depth) else {
-        return line.len();
-    };
-    let x = id(line, a, true);
-    let amount = number64(line, x.next);
-    let fee = choice(line, amount.next, false, b"fee", b"pay");
-    let height = number(line, fee.next, 4294967295);
-    let value = x.value;
-    put_seven(out, k, value, amount.value, fee.value, height.value);
-    if end_here(line, height.next, false) {
-        return e;
+    let (inside, behind) = inside(rest, gap, depth)?;
+    let (id, rest) = id(inside, true)?;
+    let (amount, rest) = number64(rest)?;
+    let (fee, rest) = choice(rest, false, b"fee", 1, b"pay", 0)?;
+    let (height, rest) = number32(rest)?;
+    if !ends(rest, false) {
+        return None;
     }
-    line.len()
+    put_seven(out, k, id, amount, fee, height as u64);
+    Some(behind)
 }
 
 // One record.
-fn put_item(
-    line: &[u8],
-    at: usize,
+fn put_item<'a>(
+    rest: &'a [u8],
     gap: bool,
     depth: usize,
     kind: Records,
     out: &mut [u64],
     k: usize,
-) -> usize
-    requires { (at ≤ length line.now) × (k + (item_of kind).width ≤ length out.old) }
-    ensures { ItemAt (item_of kind) line.now at gap depth k out.old out.new result }
+) -> Option<&'a [u8]>
+    requires { k + (item_of kind).width ≤ length out.old }
+    ensures { MatchOption result (NoItem (item_of kind) rest.now gap depth) (λ r. ItemAt (item_of kind) rest.now gap depth k out.old out.new r.now) }
 {
     match kind {
-        Records::Boxes => return put_box(line, at, gap, depth, out, k),
-        Records::Flags => return put_flag(line, at, gap, depth, out, k),
-        Records::Inputs => return put_input(line, at, gap, depth, out, k),
-        Records::Heights => return put_height(line, at, gap, depth, out, k),
-        Records::Outputs => return put_output(line, at, gap, depth, out, k),
+        Records::Boxes => put_box(rest, gap, depth, out, k),
+        Records::Flags => put_flag(rest, gap, depth, out, k),
+        Records::Inputs => put_input(rest, gap, depth, out, k),
+        Records::Heights => put_height(rest, gap, depth, out, k),
+        Records::Outputs => put_output(rest, gap, depth, out, k),
     }
 }
 
-// All records of a list, from behind its opening bracket.
-fn all_items(line: &[u8], at: usize, depth: usize, kind: Records, out: &mut [u64]) -> Items
-    requires { at ≤ length line.now }
-    ensures { ItemsAt (item_of kind) line.now at depth out.old out.new result.words result.whole }
+// All records of a list, from behind its opening bracket: the words that were written.
+fn all_items(inside: &[u8], depth: usize, kind: Records, out: &mut [u64]) -> Option<usize>
+    ensures { MatchOption result (NoItems (item_of kind) inside.now depth (length out.old)) (λ n. ItemsAt (item_of kind) inside.now depth out.old out.new n) }
 {
     let w = width(kind);
-    let mut i = at;
+    let mut rest = inside;
     let mut gap = true;
     let mut k = 0;
-    while i < line.len() {
-        if end_here(line, i, gap) {
-            return Items {
-                words: k,
-                whole: true,
-            };
-        }
+    while !ends(rest, gap) {
         if out.len() - k < w {
-            return Items {
-                words: 0,
-                whole: false,
-            };
+            return None;
         }
-        i = put_item(line, i, gap, depth, kind, out, k);
+        rest = put_item(rest, gap, depth, kind, out, k)?;
         gap = false;
         k += w;
     }
-    Items {
-        words: 0,
-        whole: false,
-    }
+    Some(k)
 }
 
-// A list of records.
-pub fn list_field(line: &[u8], at: usize, depth: usize, kind: Records, out: &mut [u64]) -> ListField
-    requires { (at ≤ length line.now) × (0 < depth) }
-    ensures { ListAt (item_of kind) line.now at depth out.old out.new result.words result.next }
+// A list of records: the words that were written, and what is left behind the list.
+pub fn list_field<'a>(
+    rest: &'a [u8],
+    depth: usize,
+    kind: Records,
+    out: &mut [u64],
+) -> Option<(usize, &'a [u8])>
+    requires { 0 < depth }
+    ensures { MatchOption result (NoListed (item_of kind) rest.now depth (length out.old)) (λ p. ListAt (item_of kind) rest.now depth out.old out.new p.0 p.1.now) }
 {
-    let Span::Is(a, e) = list_here(line, at, false, depth) else {
-        return ListField {
-            words: 0,
-            next: line.len(),
-        };
-    };
-    let inside = all_items(line, a, depth - 1, kind, out);
-    if inside.whole {
-        return ListField {
-            words: inside.words,
-            next: e,
-        };
-    }
-    ListField {
-        words: 0,
-        next: line.len(),
-    }
+    let (inside, rest) = inside(rest, false, depth)?;
+    let words = all_items(inside, depth - 1, kind, out)?;
+    Some((words, rest))
 }

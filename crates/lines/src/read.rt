@@ -1,15 +1,15 @@
 // The forms of poolrun, each read from behind its first word. A form's fields are read one behind the other, and it is that form exactly if its list
 // then ends.
-ghost use Rattle.std.specs.Prelude.{◌≤◌, length};
-ghost use Rattle.forms.specs.Text.{part};
-ghost use Rattle.lines.specs.Forms.{FormAt, pool_of, invalidate_of, open_of, top_of, contains_of, spending_of, fee_of, wait_of, histogram_of, plain_of, ListsAt, tx_of, return_of, block_of, answer_of, rebroadcast_of, measure_of, query_of, change_of, tx_one, tx_two, return_one, return_two, block_one, block_two, answer_one, rebroadcast_one, AnswerAt, ReadAt, worded, one_of, two_of};
+ghost use Rattle.std.specs.Prelude.{length, false, unwrap_or, MatchOption};
+ghost use Rattle.lines.specs.Fields.{FieldAt, NoField};
+ghost use Rattle.lines.specs.Forms.{FormAt, strategies, pool_of, invalidate_of, open_of, top_of, contains_of, spending_of, fee_of, wait_of, histogram_of, plain_of, ListsAt, tx_of, return_of, block_of, answer_of, rebroadcast_of, measure_of, query_of, change_of, tx_one, tx_two, return_one, return_two, block_one, block_two, answer_one, rebroadcast_one, AnswerAt, ReadAt, worded, one_of, two_of};
+ghost use Rattle.lines.specs.declared.read.Form.TheVariants.{Unread};
 
 use crate::blocks::block_field;
-use crate::fields::{
-    Optional, Verdict, choice, id, number_or, number32, number64, same_word, verdict_field,
-};
+use crate::fields::{choice, id, if_ends, number_or, number32, number64, same_word, verdict_field};
 use crate::items::{Records, list_field};
-use forms::text::{Past, Span, end_here, read_line, word_here};
+use forms::text::{read_line, word};
+use pool_types::{FeeStrategy, Verdict};
 use words::ids::Id;
 
 // The settings, in the order of `MempoolConfig`.
@@ -17,8 +17,7 @@ use words::ids::Id;
 pub struct PoolForm {
     pub capacity: u64,
     pub min_fee: u64,
-    // 1 for byte, 0 for cycle
-    pub byte: u64,
+    pub strategy: FeeStrategy,
     pub interval: u64,
     pub rebroadcast: u64,
     pub ttl: u64,
@@ -33,7 +32,7 @@ pub struct TxForm {
     pub time: u64,
     pub id: Id,
     // the number of a peer, or absent for local
-    pub peer: Optional,
+    pub peer: Option<u64>,
     pub size: u64,
     pub preheader: u32,
     pub inputs: usize,
@@ -48,10 +47,10 @@ pub struct ReturnForm {
     pub fee: u64,
     pub size: u64,
     pub cost: u32,
-    pub measured: Optional,
+    pub measured: Option<u64>,
     pub created: u64,
     pub checked: u64,
-    pub peer: Optional,
+    pub peer: Option<u64>,
     pub inputs: usize,
     pub outputs: usize,
 }
@@ -95,340 +94,304 @@ pub enum Form {
     Histogram(u64, u32, u64),
     Charges,
     Written,
+    // no form: poolrun answers it too, so that it is one of the things that a line can say
     Unread,
 }
 
 // A form of one word.
-fn plain(line: &[u8], at: usize, form: Form) -> Form
-    requires { at ≤ length line.now }
-    ensures { FormAt (plain_of form) line.now at result }
+fn plain(rest: &[u8], form: Form) -> Option<Form>
+    ensures { FormAt (plain_of form) rest.now (unwrap_or result Unread) }
 {
-    if end_here(line, at, false) {
-        return form;
-    }
-    Form::Unread
+    if_ends(rest, form)
 }
 
-fn invalidate(line: &[u8], at: usize) -> Form
-    requires { at ≤ length line.now }
-    ensures { FormAt invalidate_of line.now at result }
+fn invalidate(rest: &[u8]) -> Option<Form>
+    ensures { FormAt invalidate_of rest.now (unwrap_or result Unread) }
 {
-    let time = number64(line, at);
-    let x = id(line, time.next, false);
-    let value = x.value;
-    if end_here(line, x.next, false) {
-        return Form::Invalidate(time.value, value);
-    }
-    Form::Unread
+    let (time, rest) = number64(rest)?;
+    let (id, rest) = id(rest, false)?;
+    if_ends(rest, Form::Invalidate(time, id))
 }
 
-fn open_pass(line: &[u8], at: usize) -> Form
-    requires { at ≤ length line.now }
-    ensures { FormAt open_of line.now at result }
+fn open_pass(rest: &[u8]) -> Option<Form>
+    ensures { FormAt open_of rest.now (unwrap_or result Unread) }
 {
-    let time = number64(line, at);
-    let limit = number64(line, time.next);
-    let preheader = number32(line, limit.next);
-    if end_here(line, preheader.next, false) {
-        return Form::Open(time.value, limit.value, preheader.value);
-    }
-    Form::Unread
+    let (time, rest) = number64(rest)?;
+    let (limit, rest) = number64(rest)?;
+    let (preheader, rest) = number32(rest)?;
+    if_ends(rest, Form::Open(time, limit, preheader))
 }
 
-fn top(line: &[u8], at: usize) -> Form
-    requires { at ≤ length line.now }
-    ensures { FormAt top_of line.now at result }
+fn top(rest: &[u8]) -> Option<Form>
+    ensures { FormAt top_of rest.now (unwrap_or result Unread) }
 {
-    let limit = number64(line, at);
-    if end_here(line, limit.next, false) {
-        return Form::Top(limit.value);
-    }
-    Form::Unread
+    let (limit, rest) = number64(rest)?;
+    if_ends(rest, Form::Top(limit))
 }
 
-fn contains(line: &[u8], at: usize) -> Form
-    requires { at ≤ length line.now }
-    ensures { FormAt contains_of line.now at result }
+fn contains(rest: &[u8]) -> Option<Form>
+    ensures { FormAt contains_of rest.now (unwrap_or result Unread) }
 {
-    let time = number64(line, at);
-    let x = id(line, time.next, false);
-    let value = x.value;
-    if end_here(line, x.next, false) {
-        return Form::Contains(time.value, value);
-    }
-    Form::Unread
+    let (time, rest) = number64(rest)?;
+    let (id, rest) = id(rest, false)?;
+    if_ends(rest, Form::Contains(time, id))
 }
 
-fn spending(line: &[u8], at: usize) -> Form
-    requires { at ≤ length line.now }
-    ensures { FormAt spending_of line.now at result }
+fn spending(rest: &[u8]) -> Option<Form>
+    ensures { FormAt spending_of rest.now (unwrap_or result Unread) }
 {
-    let x = id(line, at, false);
-    let value = x.value;
-    if end_here(line, x.next, false) {
-        return Form::Spending(value);
-    }
-    Form::Unread
+    let (id, rest) = id(rest, false)?;
+    if_ends(rest, Form::Spending(id))
 }
 
-fn fee(line: &[u8], at: usize) -> Form
-    requires { at ≤ length line.now }
-    ensures { FormAt fee_of line.now at result }
+fn fee(rest: &[u8]) -> Option<Form>
+    ensures { FormAt fee_of rest.now (unwrap_or result Unread) }
 {
-    let minutes = number32(line, at);
-    let size = number32(line, minutes.next);
-    if end_here(line, size.next, false) {
-        return Form::Fee(minutes.value, size.value);
-    }
-    Form::Unread
+    let (minutes, rest) = number32(rest)?;
+    let (size, rest) = number32(rest)?;
+    if_ends(rest, Form::Fee(minutes, size))
 }
 
-fn wait(line: &[u8], at: usize) -> Form
-    requires { at ≤ length line.now }
-    ensures { FormAt wait_of line.now at result }
+fn wait(rest: &[u8]) -> Option<Form>
+    ensures { FormAt wait_of rest.now (unwrap_or result Unread) }
 {
-    let time = number64(line, at);
-    let fee = number64(line, time.next);
-    let size = number32(line, fee.next);
-    if end_here(line, size.next, false) {
-        return Form::Wait(time.value, fee.value, size.value);
-    }
-    Form::Unread
+    let (time, rest) = number64(rest)?;
+    let (fee, rest) = number64(rest)?;
+    let (size, rest) = number32(rest)?;
+    if_ends(rest, Form::Wait(time, fee, size))
 }
 
-fn histogram(line: &[u8], at: usize) -> Form
-    requires { at ≤ length line.now }
-    ensures { FormAt histogram_of line.now at result }
+fn histogram(rest: &[u8]) -> Option<Form>
+    ensures { FormAt histogram_of rest.now (unwrap_or result Unread) }
 {
-    let time = number64(line, at);
-    let bins = number32(line, time.next);
-    let longest = number64(line, bins.next);
-    if end_here(line, longest.next, false) {
-        return Form::Histogram(time.value, bins.value, longest.value);
-    }
-    Form::Unread
+    let (time, rest) = number64(rest)?;
+    let (bins, rest) = number32(rest)?;
+    let (longest, rest) = number64(rest)?;
+    if_ends(rest, Form::Histogram(time, bins, longest))
 }
 
-fn pool(line: &[u8], at: usize) -> Form
-    requires { at ≤ length line.now }
-    ensures { FormAt pool_of line.now at result }
+// What a fee is reckoned by.
+fn strategy(rest: &[u8]) -> Option<(FeeStrategy, &[u8])>
+    ensures { MatchOption result (NoField strategies rest.now false) (λ p. FieldAt strategies rest.now false p.0 p.1.now) }
 {
-    let capacity = number64(line, at);
-    let min_fee = number64(line, capacity.next);
-    let byte = choice(line, min_fee.next, false, b"byte", b"cycle");
-    let interval = number64(line, byte.next);
-    let rebroadcast = number64(line, interval.next);
-    let ttl = number64(line, rebroadcast.next);
-    let cache = number64(line, ttl.next);
-    let block_limit = number64(line, cache.next);
-    let peer_limit = number64(line, block_limit.next);
-    if end_here(line, peer_limit.next, false) {
-        return Form::Pool(PoolForm {
-            capacity: capacity.value,
-            min_fee: min_fee.value,
-            byte: byte.value,
-            interval: interval.value,
-            rebroadcast: rebroadcast.value,
-            ttl: ttl.value,
-            cache: cache.value,
-            block_limit: block_limit.value,
-            peer_limit: peer_limit.value,
-        });
-    }
-    Form::Unread
+    choice(
+        rest,
+        false,
+        b"byte",
+        FeeStrategy::FeePerByte,
+        b"cycle",
+        FeeStrategy::FeePerCycle,
+    )
 }
 
-fn tx(line: &[u8], at: usize, first: &mut [u64], second: &mut [u64]) -> Form
-    requires { at ≤ length line.now }
-    ensures { ListsAt tx_of line.now at first.old first.new second.old second.new tx_one (tx_two (length first.old)) result }
+fn pool(rest: &[u8]) -> Option<Form>
+    ensures { FormAt pool_of rest.now (unwrap_or result Unread) }
 {
-    let time = number64(line, at);
-    let x = id(line, time.next, false);
-    let peer = number_or(line, x.next, b"local");
-    let size = number64(line, peer.next);
-    let preheader = number32(line, size.next);
-    let inputs = list_field(line, preheader.next, 7, Records::Inputs, first);
-    let outputs = list_field(line, inputs.next, 7, Records::Outputs, second);
-    let verdict = verdict_field(line, outputs.next, 7);
-    let id_value = x.value;
-    let peer_value = peer.value;
-    let verdict_value = verdict.value;
-    if end_here(line, verdict.next, false) {
-        return Form::Tx(TxForm {
-            time: time.value,
-            id: id_value,
-            peer: peer_value,
-            size: size.value,
-            preheader: preheader.value,
-            inputs: inputs.words,
-            outputs: outputs.words,
-            verdict: verdict_value,
-        });
-    }
-    Form::Unread
+    let (capacity, rest) = number64(rest)?;
+    let (min_fee, rest) = number64(rest)?;
+    let (strategy, rest) = strategy(rest)?;
+    let (interval, rest) = number64(rest)?;
+    let (rebroadcast, rest) = number64(rest)?;
+    let (ttl, rest) = number64(rest)?;
+    let (cache, rest) = number64(rest)?;
+    let (block_limit, rest) = number64(rest)?;
+    let (peer_limit, rest) = number64(rest)?;
+    if_ends(
+        rest,
+        Form::Pool(PoolForm {
+            capacity,
+            min_fee,
+            strategy,
+            interval,
+            rebroadcast,
+            ttl,
+            cache,
+            block_limit,
+            peer_limit,
+        }),
+    )
 }
 
-fn take_back(line: &[u8], at: usize, first: &mut [u64], second: &mut [u64]) -> Form
-    requires { at ≤ length line.now }
-    ensures { ListsAt return_of line.now at first.old first.new second.old second.new return_one (return_two (length first.old)) result }
+fn tx(rest: &[u8], first: &mut [u64], second: &mut [u64]) -> Option<Form>
+    ensures { ListsAt tx_of rest.now first.old first.new second.old second.new tx_one (tx_two (length first.old)) (unwrap_or result Unread) }
 {
-    let x = id(line, at, false);
-    let fee = number64(line, x.next);
-    let size = number64(line, fee.next);
-    let cost = number32(line, size.next);
-    let measured = number_or(line, cost.next, b"none");
-    let created = number64(line, measured.next);
-    let checked = number64(line, created.next);
-    let peer = number_or(line, checked.next, b"local");
-    let inputs = list_field(line, peer.next, 7, Records::Boxes, first);
-    let outputs = list_field(line, inputs.next, 7, Records::Heights, second);
-    let id_value = x.value;
-    let measured_value = measured.value;
-    let peer_value = peer.value;
-    if end_here(line, outputs.next, false) {
-        return Form::Return(ReturnForm {
-            id: id_value,
-            fee: fee.value,
-            size: size.value,
-            cost: cost.value,
-            measured: measured_value,
-            created: created.value,
-            checked: checked.value,
-            peer: peer_value,
-            inputs: inputs.words,
-            outputs: outputs.words,
-        });
-    }
-    Form::Unread
+    let (time, rest) = number64(rest)?;
+    let (id, rest) = id(rest, false)?;
+    let (peer, rest) = number_or(rest, b"local")?;
+    let (size, rest) = number64(rest)?;
+    let (preheader, rest) = number32(rest)?;
+    let (inputs, rest) = list_field(rest, 7, Records::Inputs, first)?;
+    let (outputs, rest) = list_field(rest, 7, Records::Outputs, second)?;
+    let (verdict, rest) = verdict_field(rest, 7)?;
+    if_ends(
+        rest,
+        Form::Tx(TxForm {
+            time,
+            id,
+            peer,
+            size,
+            preheader,
+            inputs,
+            outputs,
+            verdict,
+        }),
+    )
 }
 
-fn block(line: &[u8], at: usize, first: &mut [u64], second: &mut [u64]) -> Form
-    requires { at ≤ length line.now }
-    ensures { ListsAt block_of line.now at first.old first.new second.old second.new block_one block_two result }
+fn take_back(rest: &[u8], first: &mut [u64], second: &mut [u64]) -> Option<Form>
+    ensures { ListsAt return_of rest.now first.old first.new second.old second.new return_one (return_two (length first.old)) (unwrap_or result Unread) }
 {
-    let time = number64(line, at);
-    let list = block_field(line, time.next, 7, first, second);
-    if end_here(line, list.next, false) {
-        return Form::Block(BlockForm {
-            time: time.value,
-            transactions: list.transactions,
-            inputs: list.inputs,
-        });
-    }
-    Form::Unread
+    let (id, rest) = id(rest, false)?;
+    let (fee, rest) = number64(rest)?;
+    let (size, rest) = number64(rest)?;
+    let (cost, rest) = number32(rest)?;
+    let (measured, rest) = number_or(rest, b"none")?;
+    let (created, rest) = number64(rest)?;
+    let (checked, rest) = number64(rest)?;
+    let (peer, rest) = number_or(rest, b"local")?;
+    let (inputs, rest) = list_field(rest, 7, Records::Boxes, first)?;
+    let (outputs, rest) = list_field(rest, 7, Records::Heights, second)?;
+    if_ends(
+        rest,
+        Form::Return(ReturnForm {
+            id,
+            fee,
+            size,
+            cost,
+            measured,
+            created,
+            checked,
+            peer,
+            inputs,
+            outputs,
+        }),
+    )
 }
 
-fn answer(line: &[u8], at: usize, first: &mut [u64]) -> Form
-    requires { at ≤ length line.now }
-    ensures { AnswerAt answer_of line.now at first.old first.new answer_one result }
+fn block(rest: &[u8], first: &mut [u64], second: &mut [u64]) -> Option<Form>
+    ensures { ListsAt block_of rest.now first.old first.new second.old second.new block_one block_two (unwrap_or result Unread) }
 {
-    let flags = list_field(line, at, 7, Records::Flags, first);
-    let verdict = verdict_field(line, flags.next, 7);
-    let value = verdict.value;
-    if end_here(line, verdict.next, false) {
-        return Form::Answer(flags.words, value);
-    }
-    Form::Unread
+    let (time, rest) = number64(rest)?;
+    let (transactions, inputs, rest) = block_field(rest, 7, first, second)?;
+    if_ends(
+        rest,
+        Form::Block(BlockForm {
+            time,
+            transactions,
+            inputs,
+        }),
+    )
 }
 
-fn rebroadcast(line: &[u8], at: usize, first: &mut [u64]) -> Form
-    requires { at ≤ length line.now }
-    ensures { AnswerAt rebroadcast_of line.now at first.old first.new rebroadcast_one result }
+fn answer(rest: &[u8], first: &mut [u64]) -> Option<Form>
+    ensures { AnswerAt answer_of rest.now first.old first.new answer_one (unwrap_or result Unread) }
 {
-    let boxes = list_field(line, at, 7, Records::Boxes, first);
-    if end_here(line, boxes.next, false) {
-        return Form::Rebroadcast(boxes.words);
-    }
-    Form::Unread
+    let (flags, rest) = list_field(rest, 7, Records::Flags, first)?;
+    let (verdict, rest) = verdict_field(rest, 7)?;
+    if_ends(rest, Form::Answer(flags, verdict))
 }
+
+fn rebroadcast(rest: &[u8], first: &mut [u64]) -> Option<Form>
+    ensures { AnswerAt rebroadcast_of rest.now first.old first.new rebroadcast_one (unwrap_or result Unread) }
+{
+    let (boxes, rest) = list_field(rest, 7, Records::Boxes, first)?;
+    if_ends(rest, Form::Rebroadcast(boxes))
+}
+
+// By the first word, test by test: a `match` on the word's bytes leaves its proof a case for each byte at which a word may differ from the nineteen.
 
 // The queries about fees and waits, and what poolrun keeps.
-fn measure(line: &[u8], start: usize, end: usize) -> Form
-    requires { (start ≤ end) × (end ≤ length line.now) }
-    ensures { FormAt (measure_of (part start end line.now)) line.now end result }
+fn measure(word: &[u8], rest: &[u8]) -> Option<Form>
+    ensures { FormAt (measure_of word.now) rest.now (unwrap_or result Unread) }
 {
-    if same_word(line, start, end, b"fee") {
-        return fee(line, end);
+    if same_word(word, b"fee") {
+        return fee(rest);
     }
-    if same_word(line, start, end, b"wait") {
-        return wait(line, end);
+    if same_word(word, b"wait") {
+        return wait(rest);
     }
-    if same_word(line, start, end, b"histogram") {
-        return histogram(line, end);
+    if same_word(word, b"histogram") {
+        return histogram(rest);
     }
-    if same_word(line, start, end, b"charges") {
-        return plain(line, end, Form::Charges);
+    if same_word(word, b"charges") {
+        return plain(rest, Form::Charges);
     }
-    if same_word(line, start, end, b"written") {
-        return plain(line, end, Form::Written);
+    if same_word(word, b"written") {
+        return plain(rest, Form::Written);
     }
-    Form::Unread
+    None
 }
 
 // The other queries.
-fn query(line: &[u8], start: usize, end: usize) -> Form
-    requires { (start ≤ end) × (end ≤ length line.now) }
-    ensures { FormAt (query_of (part start end line.now)) line.now end result }
+fn query(word: &[u8], rest: &[u8]) -> Option<Form>
+    ensures { FormAt (query_of word.now) rest.now (unwrap_or result Unread) }
 {
-    if same_word(line, start, end, b"list") {
-        return plain(line, end, Form::List);
+    if same_word(word, b"list") {
+        return plain(rest, Form::List);
     }
-    if same_word(line, start, end, b"top") {
-        return top(line, end);
+    if same_word(word, b"top") {
+        return top(rest);
     }
-    if same_word(line, start, end, b"len") {
-        return plain(line, end, Form::Len);
+    if same_word(word, b"len") {
+        return plain(rest, Form::Len);
     }
-    if same_word(line, start, end, b"contains") {
-        return contains(line, end);
+    if same_word(word, b"contains") {
+        return contains(rest);
     }
-    if same_word(line, start, end, b"spending") {
-        return spending(line, end);
+    if same_word(word, b"spending") {
+        return spending(rest);
     }
-    measure(line, start, end)
+    measure(word, rest)
 }
 
 // The changing calls without lists.
-fn change(line: &[u8], start: usize, end: usize) -> Form
-    requires { (start ≤ end) × (end ≤ length line.now) }
-    ensures { FormAt (change_of (part start end line.now)) line.now end result }
+fn change(word: &[u8], rest: &[u8]) -> Option<Form>
+    ensures { FormAt (change_of word.now) rest.now (unwrap_or result Unread) }
 {
-    if same_word(line, start, end, b"pool") {
-        return pool(line, end);
+    if same_word(word, b"pool") {
+        return pool(rest);
     }
-    if same_word(line, start, end, b"invalidate") {
-        return invalidate(line, end);
+    if same_word(word, b"invalidate") {
+        return invalidate(rest);
     }
-    if same_word(line, start, end, b"open") {
-        return open_pass(line, end);
+    if same_word(word, b"open") {
+        return open_pass(rest);
     }
-    if same_word(line, start, end, b"next") {
-        return plain(line, end, Form::Next);
+    if same_word(word, b"next") {
+        return plain(rest, Form::Next);
     }
-    query(line, start, end)
+    query(word, rest)
 }
 
-// The form whose first word stands from `start` up to `end`.
-fn worded(line: &[u8], start: usize, end: usize, first: &mut [u64], second: &mut [u64]) -> Form
-    requires { (start ≤ end) × (end ≤ length line.now) }
-    ensures { ListsAt (worded (part start end line.now)) line.now end first.old first.new second.old second.new (one_of (part start end line.now)) (two_of (part start end line.now) (length first.old)) result }
+// The form whose first word this is.
+fn worded(word: &[u8], rest: &[u8], first: &mut [u64], second: &mut [u64]) -> Option<Form>
+    ensures { ListsAt (worded word.now) rest.now first.old first.new second.old second.new (one_of word.now) (two_of word.now (length first.old)) (unwrap_or result Unread) }
 {
-    if same_word(line, start, end, b"tx") {
-        return tx(line, end, first, second);
+    if same_word(word, b"tx") {
+        return tx(rest, first, second);
     }
-    if same_word(line, start, end, b"return") {
-        return take_back(line, end, first, second);
+    if same_word(word, b"return") {
+        return take_back(rest, first, second);
     }
-    if same_word(line, start, end, b"block") {
-        return block(line, end, first, second);
+    if same_word(word, b"block") {
+        return block(rest, first, second);
     }
-    if same_word(line, start, end, b"answer") {
-        return answer(line, end, first);
+    if same_word(word, b"answer") {
+        return answer(rest, first);
     }
-    if same_word(line, start, end, b"rebroadcast") {
-        return rebroadcast(line, end, first);
+    if same_word(word, b"rebroadcast") {
+        return rebroadcast(rest, first);
     }
-    change(line, start, end)
+    change(word, rest)
+}
+
+// The form that a line is, if it is one.
+fn form_of(line: &[u8], first: &mut [u64], second: &mut [u64]) -> Option<Form>
+    ensures { ReadAt line.now first.old first.new second.old second.new (unwrap_or result Unread) }
+{
+    let inside = read_line(line)?;
+    let (word, rest) = word(inside, true)?;
+    worded(word, rest, first, second)
 }
 
 // Reads a line. The words of its form's lists go into the two lent slices: inputs, flags, box ids or a block's
@@ -436,11 +399,5 @@ fn worded(line: &[u8], start: usize, end: usize, first: &mut [u64], second: &mut
 pub fn read_form(line: &[u8], first: &mut [u64], second: &mut [u64]) -> Form
     ensures { ReadAt line.now first.old first.new second.old second.new result }
 {
-    let Past::At(a) = read_line(line) else {
-        return Form::Unread;
-    };
-    let Span::Is(start, end) = word_here(line, a, true) else {
-        return Form::Unread;
-    };
-    worded(line, start, end, first, second)
+    form_of(line, first, second).unwrap_or(Form::Unread)
 }

@@ -21,7 +21,7 @@ pub fn with_number(out: &mut [u8], head: &[u8], n: u64) -> usize
     ensures { Prints (numbered head.now n) 0 out.old out.new result }
 {
     let k = number(out, 0, head, n);
-    byte(out, k, 41)
+    byte(out, k, b')')
 }
 
 // `(accepted ID)` and the like.
@@ -30,7 +30,7 @@ pub fn with_id(out: &mut [u8], head: &[u8], id: Id) -> usize
     ensures { Prints (named head.now (id_of id)) 0 out.old out.new result }
 {
     let k = pieces::id(out, 0, head, id);
-    byte(out, k, 41)
+    byte(out, k, b')')
 }
 
 // `(ids ID..)` and the like.
@@ -40,7 +40,7 @@ pub fn with_ids(out: &mut [u8], head: &[u8], list: &[u64], n: usize) -> usize
 {
     let k = text(out, 0, head);
     let e = ids(out, k, list, 0, n);
-    byte(out, e, 41)
+    byte(out, e, b')')
 }
 
 // `(replaced ID (ID..))`.
@@ -59,7 +59,7 @@ pub fn pooled(out: &mut [u8], words: &[u64], n: usize) -> usize
 {
     let k = text(out, 0, b"(pooled");
     let e = rows(out, k, words, n);
-    byte(out, e, 41)
+    byte(out, e, b')')
 }
 
 // `(spender ID WEIGHT BASE)`.
@@ -78,7 +78,7 @@ pub fn charges(out: &mut [u8], total: u64, peers: &[u64], n: usize) -> usize
 {
     let k = number(out, 0, b"(charges ", total);
     let e = pairs(out, k, peers, n);
-    byte(out, e, 41)
+    byte(out, e, b')')
 }
 
 // `(bins (COUNT TOTAL)..)`.
@@ -88,5 +88,5 @@ pub fn bins(out: &mut [u8], words: &[u64], n: usize) -> usize
 {
     let k = text(out, 0, b"(bins");
     let e = pairs(out, k, words, n);
-    byte(out, e, 41)
+    byte(out, e, b')')
 }

@@ -9,7 +9,7 @@ ghost use Rattle.replies.specs.Replies.{spaced, parted, weights, row_text, pair_
 
 use boxes::lists::id_at;
 use forms::nums::{print_id, print_number};
-use words::ids::{Id, load_id};
+use words::ids::{Id, get_id};
 
 pub fn byte(out: &mut [u8], at: usize, c: u8) -> usize
     requires { at < length out.old }
@@ -23,13 +23,9 @@ pub fn text(out: &mut [u8], at: usize, bytes: &[u8]) -> usize
     requires { at + length bytes.now ≤ length out.old }
     ensures { Prints bytes.now at out.old out.new result }
 {
-    let mut k = at;
-    let mut i = 0;
-    while i < bytes.len() {
-        k = byte(out, k, bytes[i]);
-        i += 1;
-    }
-    k
+    let end = at + bytes.len();
+    out[at..end].copy_from_slice(bytes);
+    end
 }
 
 // A number behind a head.
@@ -56,10 +52,8 @@ pub fn ids(out: &mut [u8], at: usize, list: &[u64], from: usize, n: usize) -> us
     ensures { Prints (flat spaced (drop from (ids_to 4 list.now n))) at out.old out.new result }
 {
     let mut k = at;
-    let mut i = from;
-    while i < n {
+    for i in from..n {
         k = id(out, k, b" ", id_at(list, 4, i));
-        i += 1;
     }
     k
 }
@@ -93,7 +87,7 @@ pub fn weights(out: &mut [u8], at: usize, weight: u64, base: u64) -> usize
 {
     let k = number(out, at, b" ", weight);
     let e = number(out, k, b" ", base);
-    byte(out, e, 41)
+    byte(out, e, b')')
 }
 
 // Row `i`.
@@ -101,7 +95,7 @@ fn row(out: &mut [u8], at: usize, words: &[u64], i: usize) -> usize
     requires { (i * 6 + 6 ≤ length words.now) × (at + 109 ≤ length out.old) }
     ensures { Prints (row_text (row_at words.now i)) at out.old out.new result }
 {
-    let k = id(out, at, b" (", load_id(words, i * 6));
+    let k = id(out, at, b" (", get_id(words, i * 6));
     weights(out, k, words[i * 6 + 4], words[i * 6 + 5])
 }
 
@@ -111,10 +105,8 @@ pub fn rows(out: &mut [u8], at: usize, words: &[u64], n: usize) -> usize
     ensures { Prints (flat row_text (rows_of words.now n)) at out.old out.new result }
 {
     let mut k = at;
-    let mut i = 0;
-    while i < n {
+    for i in 0..n {
         k = row(out, k, words, i);
-        i += 1;
     }
     k
 }
@@ -126,7 +118,7 @@ fn pair(out: &mut [u8], at: usize, words: &[u64], i: usize) -> usize
 {
     let k = number(out, at, b" (", words[i * 2]);
     let e = number(out, k, b" ", words[i * 2 + 1]);
-    byte(out, e, 41)
+    byte(out, e, b')')
 }
 
 // The first `n` pairs.
@@ -135,10 +127,8 @@ pub fn pairs(out: &mut [u8], at: usize, words: &[u64], n: usize) -> usize
     ensures { Prints (flat pair_text (pairs_of words.now n)) at out.old out.new result }
 {
     let mut k = at;
-    let mut i = 0;
-    while i < n {
+    for i in 0..n {
         k = pair(out, k, words, i);
-        i += 1;
     }
     k
 }

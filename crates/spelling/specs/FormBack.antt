@@ -3,6 +3,7 @@ use Rattle.std.specs.Prelude.{ℕ, ◌≡◌, refl, Bool, true, false, []}
 use Rattle.std.proofs.Common.{sym, ap, ◌∙◌, subst}
 use mathlib.Core.List as ListOf
 use Rattle.words.specs.Lists.{pick}
+use Rattle.pool_types.specs.declared.FeeStrategy.TheVariants.{FeePerByte, FeePerCycle}
 use Rattle.words.specs.Sums.{cap}
 use Rattle.forms.specs.Text.{Members, none, word, sub}
 use Rattle.forms.specs.TextLaws.{by_bool, true-false}
@@ -13,9 +14,9 @@ use Rattle.lines.specs.declared.read.Form.TheVariants.{Pool, Tx, Return, Block, 
 use Rattle.lines.specs.Fields.{Rest, gone, here, word_of, past_word, list_of, ended, value, past, is_value, number64, number32, ids, same, choices, optional, w_none, judged, past_verdict}
 use Rattle.lines.specs.Items.{w_fee, item_of, words_in}
 use Rattle.lines.specs.Blocks.{transactions, inputs_in, txs_count, inputs_count, past_block}
-use Rattle.lines.specs.Forms.{is_read, whole, plain_of, invalidate_of, open_of, top_of, contains_of, spending_of, fee_of, wait_of, histogram_of, w_byte, w_cycle, pool_of, w_local, w_pool, w_tx, w_return, w_block, w_invalidate, w_open, w_next, w_answer, w_rebroadcast, w_list, w_top, w_len, w_contains, w_spending, w_wait, w_histogram, w_charges, w_written, tx_lists, tx_of, return_of, return_lists, block_of, answer_of, rebroadcast_of, measure_of, query_of, change_of, worded_of, form_of, tx_one, tx_two, return_one, return_two, block_one, block_two, answer_one, rebroadcast_one, one_of, two_of}
+use Rattle.lines.specs.Forms.{is_read, whole, plain_of, invalidate_of, open_of, top_of, contains_of, spending_of, fee_of, wait_of, histogram_of, w_byte, w_cycle, strategies, pool_of, w_local, w_pool, w_tx, w_return, w_block, w_invalidate, w_open, w_next, w_answer, w_rebroadcast, w_list, w_top, w_len, w_contains, w_spending, w_wait, w_histogram, w_charges, w_written, tx_lists, tx_of, return_of, return_lists, block_of, answer_of, rebroadcast_of, measure_of, query_of, change_of, worded_of, form_of, tx_one, tx_two, return_one, return_two, block_one, block_two, answer_one, rebroadcast_one, one_of, two_of}
 use Rattle.spelling.specs.Spelling.{lower, lowered, plain, tidied}
-use Rattle.spelling.specs.ReadBack.{tidied_in, same_numbers, same-ids, same-choices, same-optional, same_item, same_true, plain-none, Keeps, keeps-field, keeps-items, keeps-verdict, keeps-block}
+use Rattle.spelling.specs.ReadBack.{tidied_in, same_numbers, same-ids, same-either, same-choices, same-optional, same_item, same_true, plain-none, Keeps, keeps-field, keeps-items, keeps-verdict, keeps-block}
 
 -- what a line is read to: the form and the words of its two lists
 pub record Out : Type 0 where
@@ -115,13 +116,13 @@ unfolding pool_of
 keeps-pool =
     keeps-field readable number64 (same_numbers cap) _
     (λ a. keeps-field readable number64 (same_numbers cap) _
-    (λ b. keeps-field readable (choices w_byte w_cycle) (same-choices w_byte w_cycle plain_byte plain-cycle) _
+    (λ b. keeps-field readable strategies (same-either w_byte FeePerByte w_cycle FeePerCycle plain_byte plain-cycle) _
     (λ c. keeps-field readable number64 (same_numbers cap) _
     (λ d. keeps-field readable number64 (same_numbers cap) _
     (λ e. keeps-field readable number64 (same_numbers cap) _
     (λ f. keeps-field readable number64 (same_numbers cap) _
     (λ g. keeps-field readable number64 (same_numbers cap) _
-    (λ h. keeps-field readable number64 (same_numbers cap) (λ i s. out (whole s (Pool (record { capacity = a; min_fee = b; byte = c; interval = d; rebroadcast = e; ttl = f; cache = g; block_limit = h; peer_limit = i }))) [] []) (λ i. keeps-whole _ [] [])))))))))
+    (λ h. keeps-field readable number64 (same_numbers cap) (λ i s. out (whole s (Pool (record { capacity = a; min_fee = b; strategy = c; interval = d; rebroadcast = e; ttl = f; cache = g; block_limit = h; peer_limit = i }))) [] []) (λ i. keeps-whole _ [] [])))))))))
 
 -- ---- the forms with lists
 

@@ -1,11 +1,10 @@
 -- The spelling of a number is what poolrun prints of it (`plain-number`), and that of an id too (`plain-hex`): the printers of crate forms say the same as
 -- "decimal and lower-case hexadecimal without leading zeros, 0 for zero".
-use Rattle.std.specs.Prelude.{ℕ, ◌+◌, ◌-◌, ◌*◌, ◌^◌, ◌<◌, ◌≤◌, ◌≡◌, refl, Bool, true, false, List, [], ◌∷◌, length, get_or, leb, ltb}
+use Rattle.std.specs.Prelude.{ℕ, ◌+◌, ◌-◌, ◌*◌, ◌^◌, ◌<◌, ◌≤◌, ◌≡◌, refl, Bool, true, false, List, [], ◌∷◌, length, get_or, leb, ltb, Some, None}
 use Rattle.std.proofs.Common.{sym, ap, ap₂, ◌∙◌, subst, arith, lt_of_lt_of_le, ltb-true, le-leb}
 use Rattle.std.proofs.Math.Nat.{pow-le-pow_right}
 use Rattle.std.proofs.lemmas.Bool.{lt-leb}
 use Rattle.words.specs.Lists.{pick}
-use Rattle.forms.specs.declared.nums.Number.TheVariants.{Value, NoNumber}
 use Rattle.forms.specs.Text.{within}
 use Rattle.forms.specs.TextLaws.{by_bool, true-false}
 use Rattle.forms.specs.Nums.{digit_of, is_digits, more, number, decimal, is_hex, id_number, id_of_digits, digit_byte, decimal_text, id_text, Digits, Lower, Shows}
@@ -106,23 +105,23 @@ one-numeral b v t u h p q = shows-once b (length t + length u) v t h p (omega ar
 
 -- ---- THEOREMS
 
-pub decimal-in : (limit : ℕ) (s : List ℕ) (v : ℕ) → decimal limit s ≡ Value v → (0 < length s) × (is_digits 10 s ≡ true) × (number 10 s ≡ v)
+pub decimal-in : (limit : ℕ) (s : List ℕ) (v : ℕ) → decimal limit s ≡ Some v → (0 < length s) × (is_digits 10 s ≡ true) × (number 10 s ≡ v)
 unfolding decimal
 decimal-in limit s v e = go (ltb 0 (length s)) refl (is_digits 10 s) refl (leb (number 10 s) limit) e
   where
-    value-is : {m n : ℕ} → Value m ≡ Value n → m ≡ n
+    value-is : {m n : ℕ} → Some m ≡ Some n → m ≡ n
     value-is q = cc
 
-    none_is : {A : Type 0} {n : ℕ} → NoNumber ≡ Value n → A
+    none_is : {A : Type 0} {n : ℕ} → None ≡ Some n → A
     none_is q = absurd (let z : ◌≡◌ {A = ℕ} 0 1 = cc in omega arith)
 
-    go : (t : Bool) → ltb 0 (length s) ≡ t → (u : Bool) → is_digits 10 s ≡ u → (w : Bool) → pick t (pick u (pick w (Value (number 10 s)) NoNumber) NoNumber) NoNumber ≡ Value v → (0 < length s) × (is_digits 10 s ≡ true) × (number 10 s ≡ v)
+    go : (t : Bool) → ltb 0 (length s) ≡ t → (u : Bool) → is_digits 10 s ≡ u → (w : Bool) → pick t (pick u (pick w (Some (number 10 s)) None) None) None ≡ Some v → (0 < length s) × (is_digits 10 s ≡ true) × (number 10 s ≡ v)
     go true p true r true q = (ltb-true 0 (length s) p, r, value-is q)
     go true p true r false q = none_is q
     go true p false r w q = none_is q
     go false p u r w q = none_is q
 
-pub plain-number : (limit : ℕ) (w : List ℕ) (v : ℕ) → decimal limit w ≡ Value v → v < 10 ^ 20 → plain w ≡ decimal_text v
+pub plain-number : (limit : ℕ) (w : List ℕ) (v : ℕ) → decimal limit w ≡ Some v → v < 10 ^ 20 → plain w ≡ decimal_text v
 plain-number limit w v e h =
     let d = decimal-in limit w v e in
     one-numeral 10 v (plain w) (decimal_text v) (omega arith) (subst (λ (n : ℕ). Shows 10 n (plain w)) d.2 (plain-shows 10 w (omega arith) d.0 d.1)) (shows-numeral 10 20 v (omega arith) (omega arith) (omega arith) h)

@@ -1,6 +1,6 @@
 -- Reading a form's single spelling gives the form back (`read_back`): the same call with the same words of its lists. Each kind of field is shown to read a
 -- tidied word as it read the word; the forms are put together from their fields as crate lines puts them together.
-use Rattle.std.specs.Prelude.{ℕ, suc, ◌≡◌, Bool, length, eqb, leb}
+use Rattle.std.specs.Prelude.{ℕ, suc, ◌≡◌, Bool, length, eqb, leb, Option, Some, None}
 use Rattle.std.proofs.Math.Path.{refl, sym, ap, ap₂}
 use Rattle.std.proofs.Common.{◌∙◌, eqb-true}
 use Rattle.std.proofs.Math.Bool.{true, false}
@@ -13,14 +13,11 @@ use Rattle.words.specs.declared.ids.Id.{Id}
 use Rattle.forms.specs.Text.{Members, none, word, sub}
 use Rattle.forms.specs.TextLaws.{by_bool, true-false}
 use Rattle.forms.specs.Nums.{decimal, id_read, is_hex, id_of_digits}
-use Rattle.forms.specs.declared.nums.Number.{Number}
-use Rattle.forms.specs.declared.nums.IdRead.TheVariants.{Of, NoId}
-use Rattle.lines.specs.declared.fields.Verdict.{Verdict}
-use Rattle.lines.specs.declared.fields.Verdict.TheVariants.{Valid, Invalid, NoVerdict}
-use Rattle.lines.specs.declared.fields.Optional.TheVariants.{Some, Absent}
+use Rattle.pool_types.specs.declared.Verdict.{Verdict}
+use Rattle.pool_types.specs.declared.Verdict.TheVariants.{Valid, Invalid, Absent}
 use Rattle.lines.specs.declared.items.Records.{Records}
 use Rattle.lines.specs.declared.items.Records.TheVariants.{Boxes, Flags, Inputs, Heights, Outputs}
-use Rattle.lines.specs.Fields.{Rest, gone, here, word_of, past_word, list_of, past_list, ended, Kind, value, past, value_or0, is_value, numbers, number64, number32, id_or0, is_of, ids, same, choices, optional, w_ok, w_bad, w_none, judged, is_judged, past_verdict}
+use Rattle.lines.specs.Fields.{Rest, gone, here, word_of, past_word, list_of, past_list, ended, Kind, value, past, value_or0, is_value, numbers, number64, number32, id_or0, is_of, ids, same, either, choices, optional, w_ok, w_bad, w_none, judged, is_judged, past_verdict}
 use Rattle.lines.specs.Items.{Item, w_set, w_not, w_fee, w_pay, boxes, flags, input_words, is_input, inputs, height_words, is_height, heights, output_words, is_output, outputs, item_of, words_of, all_ok, words_in, all_in, fits, count_of, past_items, count, count_in}
 use Rattle.lines.specs.ItemLaws.{past-gone}
 use Rattle.lines.specs.Blocks.{box_list, tx_words, box_words, is_tx, transactions, inputs_of, inputs_in, fits_block, txs_count, inputs_count, past_block}
@@ -46,7 +43,7 @@ id-is : (w : ListOf.List ℕ) → is_of (id_read w) ≡ true → is_hex w ≡ tr
 unfolding id_read
 id-is w e = go (is_hex w) e
   where
-    go : (b : Bool) → is_of (pick b (Of (id_of_digits w)) NoId) ≡ true → b ≡ true
+    go : (b : Bool) → is_of (pick b (Some (id_of_digits w)) None) ≡ true → b ≡ true
     go true e = refl
     go false e = e
 
@@ -69,10 +66,13 @@ stays w v p e = let q = same_true w v e in ap plain q ∙ p ∙ sym q
 as-it-is : {A : Type 0} (k : Kind A) (w : ListOf.List ℕ) → k.ok w ≡ true → plain w ≡ w → (k.ok (plain w) ≡ true) × (k.of (plain w) ≡ k.of w)
 as-it-is k w e p = (ap k.ok p ∙ e, ap k.of p)
 
+pub same-either : {A : Type 0} (y : ListOf.List ℕ) (a : A) (n : ListOf.List ℕ) (b : A) → plain y ≡ y → plain n ≡ n → Same (either y a n b)
+unfolding either
+same-either y a n b p q =
+    record { kept = λ w e. as-it-is (either y a n b) w e (by_bool (same w y) (λ t. stays w y p t) (λ t. stays w n q (sym (ap (λ (b : Bool). pick b true (same w n)) t) ∙ e))) }
+
 pub same-choices : (y n : ListOf.List ℕ) → plain y ≡ y → plain n ≡ n → Same (choices y n)
-unfolding choices
-same-choices y n p q =
-    record { kept = λ w e. as-it-is (choices y n) w e (by_bool (same w y) (λ t. stays w y p t) (λ t. stays w n q (sym (ap (λ (b : Bool). pick b true (same w n)) t) ∙ e))) }
+same-choices y n p q = same-either y 1 n 0 p q
 
 -- a word that is no number
 pub same-optional : (v : ListOf.List ℕ) → plain v ≡ v → is_value (decimal cap v) ≡ false → Same (optional v)
@@ -86,7 +86,7 @@ same-optional v p q =
           (λ u. true-false (ap is_value d ∙ num) (ap (λ (z : ListOf.List ℕ). is_value (decimal cap z)) (same_true (plain w) v u) ∙ q))
           (λ u. (
             ap (λ (b : Bool). pick b true (is_value (decimal cap (plain w)))) u ∙ ap is_value d ∙ num,
-            ap (λ (b : Bool). pick b Absent (Some (value_or0 (decimal cap (plain w))))) u ∙ ap (λ (n : Number). Some (value_or0 n)) d ∙ sym (ap (λ (b : Bool). pick b Absent (Some (value_or0 (decimal cap w)))) t),
+            ap (λ (b : Bool). pick b None (Some (value_or0 (decimal cap (plain w))))) u ∙ ap (λ (n : Option ℕ). Some (value_or0 n)) d ∙ sym (ap (λ (b : Bool). pick b None (Some (value_or0 (decimal cap w)))) t),
           )));
     }
 
@@ -317,7 +317,7 @@ bad-back n e = (keeps-end Invalid).on (here n) e
 
 none-back : (n : Members) → is_judged (here (word w_none n)) ≡ true → judged_as (here (word w_none (tidied n))) ≡ judged_as (here (word w_none n))
 unfolding judged is_judged word_of past_word same tidied_in
-none-back n e = (keeps-end NoVerdict).on (here n) e
+none-back n e = (keeps-end Absent).on (here n) e
 
 judged-word : (w : ListOf.List ℕ) (n : Members) → is_judged (here (word w n)) ≡ true → judged_as (here (word (plain w) (tidied n))) ≡ judged_as (here (word w n))
 unfolding is_judged word_of past_word

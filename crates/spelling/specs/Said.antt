@@ -1,6 +1,6 @@
 -- The spelling from the form (`spelled-said`): each form's members, its numbers and ids as poolrun prints them, and the records of its lists from their words. So
 -- two readable lines that are the same form with equal members in order come out as the same bytes, and only they (`same_bytes`, Same).
-use Rattle.std.specs.Prelude.{ℕ, zero, suc, ◌*◌, ◌/◌, ◌^◌, ◌<◌, ◌≡◌, Bool, [], ◌∷◌, ◌++◌, take, drop, get_or, eqb, leb}
+use Rattle.std.specs.Prelude.{ℕ, zero, suc, ◌*◌, ◌/◌, ◌^◌, ◌<◌, ◌≡◌, Bool, [], ◌∷◌, ◌++◌, take, drop, get_or, eqb, leb, Option, Some, None}
 use Rattle.std.proofs.Math.Path.{refl, sym, ap, ap₂}
 use Rattle.std.proofs.Common.{◌∙◌, arith, take_at, drop_at}
 use Rattle.std.proofs.Math.Bool.{true, false}
@@ -14,21 +14,18 @@ use Rattle.forms.specs.Text.{Members, none, word, sub}
 use Rattle.forms.specs.TextLaws.{by_bool, true-false}
 use Rattle.forms.specs.Nums.{decimal, id_read, is_hex, id_of_digits, id_number, decimal_text, id_text}
 use Rattle.forms.specs.NumLaws.{decimal-le}
-use Rattle.forms.specs.declared.nums.Number.{Number}
-use Rattle.forms.specs.declared.nums.Number.TheVariants.{Value, NoNumber}
-use Rattle.forms.specs.declared.nums.IdRead.TheVariants.{Of, NoId}
-use Rattle.lines.specs.declared.fields.Verdict.{Verdict}
-use Rattle.lines.specs.declared.fields.Verdict.TheVariants.{Valid, Invalid, NoVerdict}
-use Rattle.lines.specs.declared.fields.Optional.{Optional}
-use Rattle.lines.specs.declared.fields.Optional.TheVariants.{Some, Absent}
+use Rattle.pool_types.specs.declared.FeeStrategy.{FeeStrategy}
+use Rattle.pool_types.specs.declared.FeeStrategy.TheVariants.{FeePerByte, FeePerCycle}
+use Rattle.pool_types.specs.declared.Verdict.{Verdict}
+use Rattle.pool_types.specs.declared.Verdict.TheVariants.{Valid, Invalid, Absent}
 use Rattle.lines.specs.declared.items.Records.TheVariants.{Boxes, Flags, Inputs, Heights, Outputs}
 use Rattle.lines.specs.declared.read.Form.{Form}
 use Rattle.lines.specs.declared.read.Form.TheVariants.{Pool, Tx, Return, Block, Invalidate, Open, Next, Answer, Rebroadcast, List, Top, Len, Contains, Spending, Fee, Wait, Histogram, Charges, Written, Unread}
-use Rattle.lines.specs.Fields.{Rest, gone, here, word_of, past_word, list_of, past_list, ended, Kind, value, past, value_or0, is_value, numbers, number64, number32, id_or0, is_of, ids, same, choices, optional, w_ok, w_bad, w_none, judged, is_judged, past_verdict}
+use Rattle.lines.specs.Fields.{Rest, gone, here, word_of, past_word, list_of, past_list, ended, Kind, value, past, value_or0, is_value, numbers, number64, number32, id_or0, is_of, ids, same, either, choices, optional, w_ok, w_bad, w_none, judged, is_judged, past_verdict}
 use Rattle.lines.specs.Items.{Item, w_set, w_not, w_fee, w_pay, boxes, flags, input_words, is_input, inputs, height_words, is_height, heights, output_words, is_output, outputs, item_of, words_of, all_ok, words_in, all_in, fits, count_of, past_items, count, count_in}
 use Rattle.lines.specs.ItemLaws.{past-gone, words-in-length}
 use Rattle.lines.specs.Blocks.{box_list, tx_words, box_words, is_tx, transactions, inputs_of, inputs_in, fits_block, txs_count, inputs_count, past_block}
-use Rattle.lines.specs.Forms.{is_read, whole, plain_of, invalidate_of, open_of, top_of, contains_of, spending_of, fee_of, wait_of, histogram_of, w_byte, w_cycle, pool_of, w_local, w_pool, w_tx, w_return, w_block, w_invalidate, w_open, w_next, w_answer, w_rebroadcast, w_list, w_top, w_len, w_contains, w_spending, w_wait, w_histogram, w_charges, w_written, tx_lists, tx_of, return_of, return_lists, block_of, answer_of, rebroadcast_of, measure_of, query_of, change_of, worded_of, form_of, tx_one, tx_two, return_one, return_two, block_one, block_two, answer_one, rebroadcast_one, one_of, two_of}
+use Rattle.lines.specs.Forms.{is_read, whole, plain_of, invalidate_of, open_of, top_of, contains_of, spending_of, fee_of, wait_of, histogram_of, w_byte, w_cycle, strategies, pool_of, w_local, w_pool, w_tx, w_return, w_block, w_invalidate, w_open, w_next, w_answer, w_rebroadcast, w_list, w_top, w_len, w_contains, w_spending, w_wait, w_histogram, w_charges, w_written, tx_lists, tx_of, return_of, return_lists, block_of, answer_of, rebroadcast_of, measure_of, query_of, change_of, worded_of, form_of, tx_one, tx_two, return_one, return_two, block_one, block_two, answer_one, rebroadcast_one, one_of, two_of}
 use Rattle.spelling.specs.Spelling.{lower, lowered, plain, tidied}
 use Rattle.spelling.specs.Printed.{plain-number, plain-hex}
 use Rattle.spelling.specs.ReadBack.{tidied_in, same_true, Seen}
@@ -43,14 +40,18 @@ hex_text x = id_text (id_number x)
 abbrev pub choice_text : ListOf.List ℕ → ListOf.List ℕ → ℕ → ListOf.List ℕ
 choice_text y n v = pick (eqb v 1) y n
 
-abbrev pub option_text : ListOf.List ℕ → Optional → ListOf.List ℕ
+abbrev pub strategy_text : FeeStrategy → ListOf.List ℕ
+strategy_text FeePerByte = w_byte
+strategy_text FeePerCycle = w_cycle
+
+abbrev pub option_text : ListOf.List ℕ → Option ℕ → ListOf.List ℕ
 option_text w (Some v) = decimal_text v
-option_text w Absent = w
+option_text w None = w
 
 abbrev pub verdict_said : Verdict → Members
 verdict_said (Valid c) = word w_ok (word (decimal_text c) none)
 verdict_said Invalid = word w_bad none
-verdict_said NoVerdict = word w_none none
+verdict_said Absent = word w_none none
 
 -- the records of a list: n of them, of w words each, and the member that f makes of a record
 unfoldable pub items_said : (ListOf.List ℕ → Members → Members) → ℕ → ℕ → ListOf.List ℕ → Members
@@ -87,7 +88,7 @@ txs_said (suc n) l b = sub (word (hex_text (id_in l)) (sub (items_said box_said 
 -- THE SPECIFICATION: the members of a form, whose lists have the words u and v
 unfoldable pub said : Form → ListOf.List ℕ → ListOf.List ℕ → Members
 said (Pool f) u v =
-    word w_pool (word (decimal_text f.capacity) (word (decimal_text f.min_fee) (word (choice_text w_byte w_cycle f.byte) (word (decimal_text f.interval) (word (decimal_text f.rebroadcast) (word (decimal_text f.ttl) (word (decimal_text f.cache) (word (decimal_text f.block_limit) (word (decimal_text f.peer_limit) none)))))))))
+    word w_pool (word (decimal_text f.capacity) (word (decimal_text f.min_fee) (word (strategy_text f.strategy) (word (decimal_text f.interval) (word (decimal_text f.rebroadcast) (word (decimal_text f.ttl) (word (decimal_text f.cache) (word (decimal_text f.block_limit) (word (decimal_text f.peer_limit) none)))))))))
 said (Tx f) u v =
     word w_tx (word (decimal_text f.time) (word (hex_text f.id) (word (option_text w_local f.peer) (word (decimal_text f.size) (word (decimal_text f.preheader) (sub (list_said input_said 5 u) (sub (list_said output_said 7 v) (sub (verdict_said f.verdict) none))))))))
 said (Return f) u v =
@@ -120,9 +121,9 @@ says-numbers : (limit : ℕ) → limit < 10 ^ 20 → Says (numbers limit) decima
 unfolding numbers
 says-numbers limit h = record { on = λ w e. go w (decimal limit w) refl e }
   where
-    go : (w : ListOf.List ℕ) (n : Number) → decimal limit w ≡ n → is_value n ≡ true → plain w ≡ decimal_text (value_or0 (decimal limit w))
-    go w (Value v) q e = plain-number limit w v q (let l = decimal-le limit w v q in omega arith) ∙ ap (λ (z : Number). decimal_text (value_or0 z)) (sym q)
-    go w NoNumber q e = true-false e refl
+    go : (w : ListOf.List ℕ) (n : Option ℕ) → decimal limit w ≡ n → is_value n ≡ true → plain w ≡ decimal_text (value_or0 (decimal limit w))
+    go w (Some v) q e = plain-number limit w v q (let l = decimal-le limit w v q in omega arith) ∙ ap (λ (z : Option ℕ). decimal_text (value_or0 z)) (sym q)
+    go w None q e = true-false e refl
 
 says-64 : Says number64 decimal_text
 says-64 = says-numbers cap (omega arith)
@@ -134,17 +135,20 @@ says-ids : Says ids hex_text
 unfolding ids id_read
 says-ids = record { on = λ w e. go w (is_hex w) refl e }
   where
-    go : (w : ListOf.List ℕ) (b : Bool) → is_hex w ≡ b → is_of (pick b (Of (id_of_digits w)) NoId) ≡ true → plain w ≡ hex_text (id_or0 (pick b (Of (id_of_digits w)) NoId))
+    go : (w : ListOf.List ℕ) (b : Bool) → is_hex w ≡ b → is_of (pick b (Some (id_of_digits w)) None) ≡ true → plain w ≡ hex_text (id_or0 (pick b (Some (id_of_digits w)) None))
     go w true q e = plain-hex w q
     go w false q e = true-false e refl
 
-says-choices : (y n : ListOf.List ℕ) → plain y ≡ y → plain n ≡ n → Says (choices y n) (choice_text y n)
-unfolding choices
-says-choices y n p q = record { on = λ w e. go w (same w y) refl e }
+says-either : {A : Type 0} (y : ListOf.List ℕ) (a : A) (n : ListOf.List ℕ) (b : A) (t : A → ListOf.List ℕ) → plain y ≡ t a → plain n ≡ t b → Says (either y a n b) t
+unfolding either
+says-either y a n b t p q = record { on = λ w e. go w (same w y) refl e }
   where
-    go : (w : ListOf.List ℕ) (b : Bool) → same w y ≡ b → pick b true (same w n) ≡ true → plain w ≡ pick (eqb (pick b 1 0) 1) y n
+    go : (w : ListOf.List ℕ) (c : Bool) → same w y ≡ c → pick c true (same w n) ≡ true → plain w ≡ t (pick c a b)
     go w true r e = ap plain (same_true w y r) ∙ p
     go w false r e = ap plain (same_true w n e) ∙ q
+
+says-choices : (y n : ListOf.List ℕ) → plain y ≡ y → plain n ≡ n → Says (choices y n) (choice_text y n)
+says-choices y n p q = says-either y 1 n 0 (choice_text y n) p q
 
 number_is : (w : ListOf.List ℕ) → is_value (decimal cap w) ≡ true → plain w ≡ decimal_text (value_or0 (decimal cap w))
 unfolding numbers
@@ -154,7 +158,7 @@ says-optional : (v : ListOf.List ℕ) → plain v ≡ v → Says (optional v) (o
 unfolding optional
 says-optional v p = record { on = λ w e. go w (same w v) refl e }
   where
-    go : (w : ListOf.List ℕ) (b : Bool) → same w v ≡ b → pick b true (is_value (decimal cap w)) ≡ true → plain w ≡ option_text v (pick b Absent (Some (value_or0 (decimal cap w))))
+    go : (w : ListOf.List ℕ) (b : Bool) → same w v ≡ b → pick b true (is_value (decimal cap w)) ≡ true → plain w ≡ option_text v (pick b None (Some (value_or0 (decimal cap w))))
     go w true r e = ap plain (same_true w v r) ∙ p
     go w false r e = number_is w e
 
@@ -253,6 +257,9 @@ kept-cycle : plain w_cycle ≡ w_cycle
 unfolding plain lowered lower
 kept-cycle = refl
 
+says-strategies : Says strategies strategy_text
+says-strategies = says-either w_byte FeePerByte w_cycle FeePerCycle strategy_text kept_byte kept-cycle
+
 -- ---- records
 
 abbrev seen_ok : Seen (ListOf.List ℕ) → Bool
@@ -289,7 +296,7 @@ unfolding ids id_read is_hex
 no-id = refl
 
 no_flag : (choices w_set w_not).ok [] ≡ false
-unfolding choices same
+unfolding either same
 no_flag = refl
 
 says-boxes : SaysItem boxes box_said
@@ -368,12 +375,12 @@ judged-said w n e = go (same w w_ok) refl (same w w_bad) refl (same w w_none) re
   where
     go : (a : Bool) → same w w_ok ≡ a → (b : Bool) → same w w_bad ≡ b → (c : Bool) → same w w_none ≡ c
         → pick a (ended (past number64 (here n))) (pick b (ended (here n)) (pick c (ended (here n)) false)) ≡ true
-        → word (plain w) (tidied n) ≡ verdict_said (pick a (Valid (value number64 (here n))) (pick b Invalid NoVerdict))
+        → word (plain w) (tidied n) ≡ verdict_said (pick a (Valid (value number64 (here n))) (pick b Invalid Absent))
     go true p b q c r f =
         ap₂ word (ap plain (same_true w w_ok p) ∙ kept-ok)
         (here-is ((tells-field (λ (z : Seen Verdict). z.ok) number64 decimal_text says-64 (λ v i. record { what = Valid v; ok = ended i }) (λ v i. none) (λ v. tells-end (Valid v))).on (here n) f))
     go false p true q c r f = ap₂ word (ap plain (same_true w w_bad q) ∙ kept-bad) (here-is ((tells-end Invalid).on (here n) f))
-    go false p false q true r f = ap₂ word (ap plain (same_true w w_none r) ∙ kept-none) (here-is ((tells-end NoVerdict).on (here n) f))
+    go false p false q true r f = ap₂ word (ap plain (same_true w w_none r) ∙ kept-none) (here-is ((tells-end Absent).on (here n) f))
     go false p false q false r f = true-false f refl
 
 verdict-in : (i : Rest) → is_judged i ≡ true → tidied_in i ≡ here (verdict_said (judged i))
@@ -559,18 +566,18 @@ tells-histogram =
     (λ v. tells-field readable number32 decimal_text says-32 _ _
     (λ x. tells-field readable number64 decimal_text says-64 (λ y s. out (whole s (Histogram v x y)) [] []) (λ y s. none) (λ y. tells-whole _ [] [])))
 
-tells-pool : Tells readable (λ s. out (pool_of s) [] []) (λ s. let s1 = past number64 s in let s2 = past number64 s1 in let s3 = past (choices w_byte w_cycle) s2 in let s4 = past number64 s3 in let s5 = past number64 s4 in let s6 = past number64 s5 in let s7 = past number64 s6 in let s8 = past number64 s7 in word (decimal_text (value number64 s)) (word (decimal_text (value number64 s1)) (word (choice_text w_byte w_cycle (value (choices w_byte w_cycle) s2)) (word (decimal_text (value number64 s3)) (word (decimal_text (value number64 s4)) (word (decimal_text (value number64 s5)) (word (decimal_text (value number64 s6)) (word (decimal_text (value number64 s7)) (word (decimal_text (value number64 s8)) none)))))))))
+tells-pool : Tells readable (λ s. out (pool_of s) [] []) (λ s. let s1 = past number64 s in let s2 = past number64 s1 in let s3 = past strategies s2 in let s4 = past number64 s3 in let s5 = past number64 s4 in let s6 = past number64 s5 in let s7 = past number64 s6 in let s8 = past number64 s7 in word (decimal_text (value number64 s)) (word (decimal_text (value number64 s1)) (word (strategy_text (value strategies s2)) (word (decimal_text (value number64 s3)) (word (decimal_text (value number64 s4)) (word (decimal_text (value number64 s5)) (word (decimal_text (value number64 s6)) (word (decimal_text (value number64 s7)) (word (decimal_text (value number64 s8)) none)))))))))
 unfolding pool_of
 tells-pool =
     tells-field readable number64 decimal_text says-64 _ _
     (λ a. tells-field readable number64 decimal_text says-64 _ _
-    (λ b. tells-field readable (choices w_byte w_cycle) (choice_text w_byte w_cycle) (says-choices w_byte w_cycle kept_byte kept-cycle) _ _
+    (λ b. tells-field readable strategies strategy_text says-strategies _ _
     (λ c. tells-field readable number64 decimal_text says-64 _ _
     (λ d. tells-field readable number64 decimal_text says-64 _ _
     (λ e. tells-field readable number64 decimal_text says-64 _ _
     (λ f. tells-field readable number64 decimal_text says-64 _ _
     (λ g. tells-field readable number64 decimal_text says-64 _ _
-    (λ h. tells-field readable number64 decimal_text says-64 (λ i s. out (whole s (Pool (record { capacity = a; min_fee = b; byte = c; interval = d; rebroadcast = e; ttl = f; cache = g; block_limit = h; peer_limit = i }))) [] []) (λ i s. none) (λ i. tells-whole _ [] [])))))))))
+    (λ h. tells-field readable number64 decimal_text says-64 (λ i s. out (whole s (Pool (record { capacity = a; min_fee = b; strategy = c; interval = d; rebroadcast = e; ttl = f; cache = g; block_limit = h; peer_limit = i }))) [] []) (λ i s. none) (λ i. tells-whole _ [] [])))))))))
 
 says-item-boxes : SaysItem (item_of Boxes) box_said
 unfolding item_of

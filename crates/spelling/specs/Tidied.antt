@@ -1,14 +1,12 @@
 -- A line of a file, tidied: document 02, "reads such a file and writes each form in a single spelling .. Unreadable lines and line ends are copied unchanged".
 -- Readable is what poolrun reads, whose lists have room for 14,336 words.
-use Rattle.std.specs.Prelude.{ℕ, ◌+◌, ◌≤◌, ◌<◌, ◌≡◌, Bool, length, get_or, drop, eqb}
+use Rattle.std.specs.Prelude.{ℕ, ◌+◌, ◌≤◌, ◌<◌, ◌≡◌, Bool, length, get_or, drop, eqb, not}
 use Rattle.std.proofs.Math.Path.{refl, sym, subst}
 use Rattle.std.proofs.Common.{ap, ap₂, ◌∙◌, arith, add-one, drop_of_length-le, drop-cons, eq-eqb, ne_eqb}
 use Rattle.std.proofs.Math.Bool.{true, false}
 use mathlib.Core.List.{List, [], ◌∷◌, ◌++◌, append_assoc, append-nil}
 use Rattle.words.specs.Lists.{pick}
-use Rattle.forms.specs.declared.text.Past.{Past}
-use Rattle.forms.specs.declared.text.Past.TheVariants.{At, Not}
-use Rattle.forms.specs.Text.{Members, Line, Opened, is_word}
+use Rattle.forms.specs.Text.{Members, Line, Opened, NoLine, is_word}
 use Rattle.forms.specs.TextLaws.{true-false, line-once}
 use Rattle.forms.specs.Nums.{Prints}
 use Rattle.replies.specs.ReplyLaws.{prints-none, prints-then, Printing, printing-none}
@@ -122,47 +120,41 @@ squeeze-end {w} {x} {y} l i p h g =
 
 -- the answers
 
-module _ (l x y : List ℕ) (k : ℕ) (r : Past) (o : Opened l r) where
-  pub tidies-not : r ≡ Not → Prints l 0 x y k → Tidies l x y k
-  unfolding Opened
-  tidies-not e w = record { text = l; is = kept (λ m p. absurd (subst (Opened l) e o m p)); prints = w }
+module _ (l x y : List ℕ) (k : ℕ) where
+  pub tidies-not : NoLine l → Prints l 0 x y k → Tidies l x y k
+  tidies-not n w = record { text = l; is = kept (λ m p. absurd (n m p)); prints = w }
 
   -- the form that the line is read as
   module _ (u f v s : List ℕ) (form : Form) (one : length u ≡ 14336) (two : length v ≡ 14336) (q : ReadAt l u f v s form) where
     form-is : (m : Members) → Line m l → is_read form ≡ is_read (form_of 14336 14336 m)
     form-is m p = ap is_read (q.is m p ∙ ap₂ (λ (a b : ℕ). form_of a b m) one two)
 
-    pub tidies-read : (a : ℕ) (b : Bool) → r ≡ At a → b ≡ is_read form → b ≡ true → Prints (squeezed false false l) 0 x y k → Tidies l x y k
+    pub tidies-read : (a : List ℕ) (b : Bool) → Opened l a → b ≡ is_read form → b ≡ true → Prints (squeezed false false l) 0 x y k → Tidies l x y k
     unfolding Opened
-    tidies-read a b e t h w =
-        let z = subst (Opened l) e o in
-        record { text = spelled z.0; is = read z.0 z.3 (sym (form-is z.0 z.3) ∙ sym t ∙ h); prints = subst (λ (c : List ℕ). Prints c 0 x y k) (squeezed-line z.0 l z.3) w }
+    tidies-read a b z t h w =
+        record { text = spelled z.0; is = read z.0 z.2 (sym (form-is z.0 z.2) ∙ sym t ∙ h); prints = subst (λ (c : List ℕ). Prints c 0 x y k) (squeezed-line z.0 l z.2) w }
 
     pub tidies-kept : (b : Bool) → b ≡ is_read form → b ≡ false → Prints l 0 x y k → Tidies l x y k
     tidies-kept b t h w = record { text = l; is = kept (λ m p. sym (form-is m p) ∙ sym t ∙ h); prints = w }
 
 -- ---- tests of one byte
 
+not-pick : (b : Bool) → not b ≡ pick b false true
+not-pick true = refl
+not-pick false = refl
+
 module _ (c : ℕ) where
-  pub joins-no : c ≡ 40 → false ≡ joins c
+  pub joins-is : not (eqb c 40) ≡ joins c
   unfolding joins
-  joins-no e = sym (ap (λ (b : Bool). pick b false true) (eq-eqb c 40 e))
+  joins-is = not-pick (eqb c 40)
 
-  pub joins-yes : (c ≡ 40 → ⊥) → true ≡ joins c
-  unfolding joins
-  joins-yes e = sym (ap (λ (b : Bool). pick b false true) (ne_eqb c 40 e))
-
-  pub owes-close : (o : Bool) → o ≡ true → c ≡ 41 → false ≡ owes o c
+  pub owes-yes : (o : Bool) → o ≡ true → not (eqb c 41) ≡ owes o c
   unfolding owes
-  owes-close o e f = sym (ap₂ (λ (a b : Bool). pick a (pick b false true) false) e (eq-eqb c 41 f))
+  owes-yes o e = not-pick (eqb c 41) ∙ sym (ap (λ (a : Bool). pick a (pick (eqb c 41) false true) false) e)
 
-  pub owes-yes : (o : Bool) → o ≡ true → (c ≡ 41 → ⊥) → true ≡ owes o c
+  pub owes-no : (o : Bool) → o ≡ false → o ≡ owes o c
   unfolding owes
-  owes-yes o e f = sym (ap₂ (λ (a b : Bool). pick a (pick b false true) false) e (ne_eqb c 41 f))
-
-  pub owes-no : (o : Bool) → o ≡ false → false ≡ owes o c
-  unfolding owes
-  owes-no o e = sym (ap (λ (a : Bool). pick a (pick (eqb c 41) false true) false) e)
+  owes-no o e = e ∙ sym (ap (λ (a : Bool). pick a (pick (eqb c 41) false true) false) e)
 
   pub put_two : (o : Bool) → owes o c ≡ true → 32 ∷ lower c ∷ [] ≡ put o c
   unfolding put

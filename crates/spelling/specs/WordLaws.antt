@@ -1,12 +1,11 @@
 -- Laws of a word's spelling: it is a word again, spelling it twice is spelling it once, and it is read as the same number, id or keyword.
-use Rattle.std.specs.Prelude.{ℕ, suc, ◌+◌, ◌*◌, ◌<◌, ◌≤◌, ◌≡◌, refl, Bool, true, false, List, [], ◌∷◌, length, eqb, leb, ltb}
+use Rattle.std.specs.Prelude.{ℕ, suc, ◌+◌, ◌*◌, ◌<◌, ◌≤◌, ◌≡◌, refl, Bool, true, false, List, [], ◌∷◌, length, eqb, leb, ltb, Some, None}
 use Rattle.std.proofs.Common.{sym, ap₂, ◌∙◌, subst, arith, eqb-true, ne_eqb, le-leb, lt-ltb}
 use Rattle.std.proofs.Math.Path.{ap}
 use Rattle.std.proofs.lemmas.Bool.{eqb-false, lt-leb}
 use Rattle.words.specs.Lists.{pick}
 use Rattle.forms.specs.Text.{within, is_word, All, IsWord}
-use Rattle.forms.specs.TextLaws.{by_bool, word-2}
-use Rattle.forms.specs.declared.nums.Number.TheVariants.{Value, NoNumber}
+use Rattle.forms.specs.TextLaws.{by_bool, word-low}
 use Rattle.forms.specs.Nums.{digit_of, is_digits, more, decimal, is_hex, id_read}
 use Rattle.forms.specs.NumLaws.{within_low, digit-2, digit-3, decimal-zero, id-spelling, id-zero, hex-in}
 use Rattle.spelling.specs.Spelling.{lower, lowered, plain}
@@ -22,9 +21,15 @@ module _ (c : ℕ) where
   unfolding lower
   lower-same e = ap (λ (b : Bool). pick b (c + 32) c) e
 
+pub lower-high : (c : ℕ) → 65 ≤ c → c ≤ 70 → c + 32 ≡ lower c
+lower-high c p q = sym (lower-up c (ap₂ (λ (x y : Bool). pick x y false) (le-leb 65 c p) (le-leb c 70 q)))
+
 -- what is proved of a byte in upper case and of any other
 pub by-case : {A : Type 0} (c : ℕ) → ((65 ≤ c) × (c ≤ 70) → lower c ≡ c + 32 → A) → (within 65 70 c ≡ false → lower c ≡ c → A) → A
 by-case c f g = by_bool (within 65 70 c) (λ e. f (within_low 65 70 c e) (lower-up c e)) (λ e. g e (lower-same c e))
+
+pub lower-other : (c : ℕ) → (65 ≤ c → c ≤ 70 → ⊥) → c ≡ lower c
+lower-other c n = by-case c (λ r e. absurd (n r.0 r.1)) (λ r e. sym e)
 
 in-range : (a z c : ℕ) → a ≤ c → c ≤ z → within a z c ≡ true
 in-range a z c h k = ap₂ (λ (x y : Bool). pick x y false) (le-leb a c h) (le-leb c z k)
@@ -39,7 +44,7 @@ above a z c h = ap (λ (y : Bool). pick (leb a c) y false) (lt-leb c z h) ∙ an
 pub lower_word : (c : ℕ) → is_word c ≡ true → is_word (lower c) ≡ true
 lower_word c e =
     by-case c
-    (λ h q. subst (λ (n : ℕ). is_word n ≡ true) (sym q) (word-2 (c + 32) (in-range 97 122 (c + 32) (omega arith) (omega arith))))
+    (λ h q. subst (λ (n : ℕ). is_word n ≡ true) (sym q) (sym (word-low (c + 32) (omega arith) (omega arith))))
     (λ h q. subst (λ (n : ℕ). is_word n ≡ true) (sym q) e)
 
 pub lower-twice : (c : ℕ) → lower (lower c) ≡ lower c
@@ -91,7 +96,7 @@ lowered-more b n (c ∷ w) = ap (λ (k : ℕ). more b (n * b + k) (lowered w)) (
 lowered-decimal : (limit : ℕ) (w : List ℕ) → decimal limit (lowered w) ≡ decimal limit w
 unfolding decimal
 lowered-decimal limit w =
-    λ i. pick (ltb 0 (lowered-length w i)) (pick (lowered-digits 10 w i) (pick (leb (lowered-more 10 0 w i) limit) (Value (lowered-more 10 0 w i)) NoNumber) NoNumber) NoNumber
+    λ i. pick (ltb 0 (lowered-length w i)) (pick (lowered-digits 10 w i) (pick (leb (lowered-more 10 0 w i) limit) (Some (lowered-more 10 0 w i)) None) None) None
 
 lowered-hex : (w : List ℕ) → is_hex (lowered w) ≡ is_hex w
 unfolding is_hex

@@ -3,37 +3,23 @@
 #![tactic(auto)]
 
 ghost use Rattle.std.specs.Prelude.{◌≡◌, false, ◌+◌, ◌≤◌, ◌<◌, length, drop, get_or};
-ghost use Rattle.forms.specs.Text.{is_word};
 ghost use Rattle.forms.specs.Nums.{Prints};
 ghost use Rattle.lines.specs.Forms.{is_read};
 ghost use Rattle.spelling.specs.Spelling.{lower, leads, owes, joins, put, squeezed};
 ghost use Rattle.spelling.specs.SqueezeLaws.{due};
 ghost use Rattle.spelling.specs.Tidied.{Spaces, Takes, Tidies};
 
-use forms::text::{Past, read_line, within};
+use forms::text::{is_word, read_line};
 use lines::read::{Form, read_form};
 use replies::pieces::{byte, text};
 
 fn lower(c: u8) -> u8
     ensures { result ≡ lower c }
 {
-    if within(65, 70, c) {
-        return c + 32;
+    match c {
+        b'A'..=b'F' => c + 32,
+        _ => c,
     }
-    c
-}
-
-// A byte of a word.
-fn of_word(c: u8) -> bool
-    ensures { result ≡ is_word c }
-{
-    if within(48, 57, c) {
-        return true;
-    }
-    if within(97, 122, c) {
-        return true;
-    }
-    within(65, 70, c)
 }
 
 // Whether the byte at `i` is a zero in front of a word. `tight`: a byte of a member stands right before it.
@@ -44,12 +30,12 @@ fn leads(line: &[u8], i: usize, tight: bool) -> bool
     if tight {
         return false;
     }
-    if line[i] != 48 {
+    if line[i] != b'0' {
         return false;
     }
     let j = i + 1;
     if j < line.len() {
-        return of_word(line[j]);
+        return is_word(line[j]);
     }
     false
 }
@@ -57,22 +43,13 @@ fn leads(line: &[u8], i: usize, tight: bool) -> bool
 fn owes(owed: bool, c: u8) -> bool
     ensures { result ≡ owes owed c }
 {
-    if owed {
-        if c == 41 {
-            return false;
-        }
-        return true;
-    }
-    false
+    owed && c != b')'
 }
 
 fn joins(c: u8) -> bool
     ensures { result ≡ joins c }
 {
-    if c == 40 {
-        return false;
-    }
-    true
+    c != b'('
 }
 
 // A byte, behind the space that is owed to it.
@@ -81,7 +58,7 @@ fn put(out: &mut [u8], at: usize, owed: bool, c: u8) -> usize
     ensures { Prints (put owed c) at out.old out.new result }
 {
     if owes(owed, c) {
-        let k = byte(out, at, 32);
+        let k = byte(out, at, b' ');
         return byte(out, k, lower(c));
     }
     byte(out, at, lower(c))
@@ -119,7 +96,7 @@ fn squeeze_byte(line: &[u8], i: usize, out: &mut [u8], p: Place) -> Place
     ensures { Takes line.now i out.old p out.new result }
 {
     let c = line[i];
-    if c == 32 {
+    if c == b' ' {
         return spaced(p);
     }
     if leads(line, i, p.tight) {
@@ -144,10 +121,8 @@ fn squeeze(line: &[u8], out: &mut [u8]) -> usize
         tight: false,
         owed: false,
     };
-    let mut i = 0;
-    while i < line.len() {
+    for i in 0..line.len() {
         p = squeeze_byte(line, i, out, p);
-        i += 1;
     }
     p.at
 }
@@ -156,26 +131,8 @@ fn is_read(form: Form) -> bool
     ensures { result ≡ is_read form }
 {
     match form {
-        Form::Pool(_) => true,
-        Form::Tx(_) => true,
-        Form::Return(_) => true,
-        Form::Block(_) => true,
-        Form::Invalidate(_, _) => true,
-        Form::Open(_, _, _) => true,
-        Form::Next => true,
-        Form::Answer(_, _) => true,
-        Form::Rebroadcast(_) => true,
-        Form::List => true,
-        Form::Top(_) => true,
-        Form::Len => true,
-        Form::Contains(_, _) => true,
-        Form::Spending(_) => true,
-        Form::Fee(_, _) => true,
-        Form::Wait(_, _, _) => true,
-        Form::Histogram(_, _, _) => true,
-        Form::Charges => true,
-        Form::Written => true,
         Form::Unread => false,
+        _ => true,
     }
 }
 
@@ -184,7 +141,7 @@ pub fn tidy_line(line: &[u8], first: &mut [u64], second: &mut [u64], out: &mut [
     requires { (length first.old ≡ 14336) × (length second.old ≡ 14336) × (length line.now ≤ length out.old) }
     ensures { Tidies line.now out.old out.new result }
 {
-    let Past::At(_) = read_line(line) else {
+    let Some(_) = read_line(line) else {
         return text(out, 0, line);
     };
     let form = read_form(line, first, second);

@@ -279,6 +279,9 @@ module _ {s s' s'' : State} {i i' i'' o o' o'' : Stand} (bs : List ℕ) (n room 
         written = all-written;
       }
 
+pub serving-left : {s s' : State} {i i' o o' : Stand} (n m : ℕ) → n ≡ m → Serving s s' n i i' o o' → Serving s s' m i i' o o'
+serving-left {s} {s'} {i} {i'} {o} {o'} n m e y = subst (λ (k : ℕ). Serving s s' k i i' o o') e y
+
 pub serves-cut : {s s' : State} {i i' o o' : Stand} (n room : ℕ) → n ≡ 0 → s'.over ≡ false → Serving s s' n i i' o o' → Serves room s s' i i' o o'
 serves-cut n room h e y =
     record {

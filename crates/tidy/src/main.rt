@@ -13,7 +13,6 @@ use spelling::tidy_line;
 use std::io::{Read, Write};
 use std::{env, fs, io};
 use streams::{Input, Output, Sink, Source};
-use words::sums::smaller;
 
 // What goes from byte to byte: how much of a line is held, whether some of it was written already, and whether the input has ended.
 #[derive(Clone, Copy)]
@@ -52,7 +51,7 @@ fn ending(line: &[u8], first: &mut [u64], second: &mut [u64], out: &mut [u8], p:
     requires { Sized line.now first.old second.old out.old }
     ensures { Outs (state_of line.now p) out.old out.new result }
 {
-    let n = smaller(p.len, line.len());
+    let n = p.len.min(line.len());
     if p.long {
         return text(out, 0, &line[..n]);
     }
@@ -65,7 +64,7 @@ fn close(out: &mut [u8], len: usize, newline: bool) -> usize
     ensures { Closes newline out.old len out.new result }
 {
     if newline {
-        out[len] = 10;
+        out[len] = b'\n';
         return len + 1;
     }
     len
@@ -79,11 +78,7 @@ fn add_byte<O: Sink>(b: u8, line: &mut [u8], out: &mut [u8], to: &mut O, p: Prog
     let len = p.len;
     if len < line.len() {
         line[len] = b;
-        return Progress {
-            len: len + 1,
-            long: p.long,
-            over: p.over,
-        };
+        return Progress { len: len + 1, ..p };
     }
     let n = text(out, 0, &line[..]);
     hand_held(to, &out[..n], &line[..]);
@@ -91,7 +86,7 @@ fn add_byte<O: Sink>(b: u8, line: &mut [u8], out: &mut [u8], to: &mut O, p: Prog
     Progress {
         len: 1,
         long: true,
-        over: p.over,
+        ..p
     }
 }
 
@@ -108,7 +103,7 @@ fn step<O: Sink>(
     requires { Sized line.old first.old second.old out.old }
     ensures { Steps b (state_of line.old p) (state_of line.new result) out.new (O.stand to.old) (O.stand to.new) }
 {
-    if b != 10 {
+    if b != b'\n' {
         return add_byte(b, line, out, to, p);
     }
     let len = ending(&line[..], first, second, out, p);
@@ -117,7 +112,7 @@ fn step<O: Sink>(
     Progress {
         len: 0,
         long: false,
-        over: p.over,
+        ..p
     }
 }
 
@@ -135,10 +130,8 @@ fn feed<O: Sink>(
     ensures { Feeds input.now (state_of line.old begun) (state_of line.new result) (O.stand to.old) (O.stand to.new) }
 {
     let mut p = begun;
-    let mut i = 0;
-    while i < input.len() {
-        p = step(input[i], line, first, second, out, to, p);
-        i += 1;
+    for b in input {
+        p = step(*b, line, first, second, out, to, p);
     }
     p
 }
@@ -158,11 +151,7 @@ fn finish<O: Sink>(
     let len = ending(line, first, second, out, p);
     let n = close(out, len, false);
     hand_last(to, &out[..n], line, p);
-    Progress {
-        len: p.len,
-        long: p.long,
-        over: true,
-    }
+    Progress { over: true, ..p }
 }
 
 // What one read brought: nothing at the end of the input.
@@ -178,7 +167,7 @@ fn turn<O: Sink>(
     requires { Sized line.old first.old second.old out.old }
     ensures { Turns input.now (state_of line.old p) (state_of line.new result) (O.stand to.old) (O.stand to.new) }
 {
-    if input.len() == 0 {
+    if input.is_empty() {
         return finish(&line[..], first, second, out, to, p);
     }
     feed(input, line, first, second, out, to, p)
@@ -203,14 +192,12 @@ fn serve<I: Source, O: Sink>(
         over: false,
     };
     // a proved loop has to end, and nothing says that an input does
-    let mut turns = u64::MAX;
-    while turns > 0 {
+    for _turn in 0..u64::MAX {
         let n = from.read_some(input);
         p = turn(&input[..n], line, first, second, out, to, p);
         if p.over {
             return p;
         }
-        turns -= 1;
     }
     p
 }

@@ -12,7 +12,7 @@ pub returns-then-line-i-ne48 : goal.returns-then-line-i-ne48
 returns-then-line-i-ne48 c = lead-other _ _ _ c.if-tight.false c.if-line-i-ne48.true
 
 pub returns-then-j-line : goal.returns-then-j-line
-returns-then-j-line c = c.of_word.ensures ∙ goes_at c.args.line.now (c.args.i + 1) (omega arith) ∙ lead_zero _ _ _ c.if-tight.false c.if-line-i-ne48.false
+returns-then-j-line c = c.is_word.ensures ∙ goes_at c.args.line.now (c.args.i + 1) (omega arith) ∙ lead_zero _ _ _ c.if-tight.false c.if-line-i-ne48.false
 
 pub returns : goal.returns
 returns c = goes_end c.args.line.now (c.args.i + 1) (omega arith) ∙ lead_zero _ _ _ c.if-tight.false c.if-line-i-ne48.false

@@ -1,10 +1,13 @@
--- `lower` meets its contract: its test is that of `lower`. Assumes nothing.
-use mathlib.Core.Path.{sym, ◌∙◌}
-use Rattle.spelling.specs.WordLaws.{lower-up, lower-same}
+-- `lower` meets its contract: its range is that of `lower`.
+use Rattle.std.proofs.Common.{arith}
+use Rattle.spelling.specs.WordLaws.{lower-high, lower-other}
 use Rattle.spelling.proofs.lower.Goals as goal
 
-pub returns-then-within : goal.returns-then-within
-returns-then-within c = sym (lower-up _ (sym c.within.ensures ∙ c.if-within.true))
+pub returns-in-65-to-70 : goal.returns-in-65-to-70
+returns-in-65-to-70 c = lower-high _ (omega (arith, c.in-65-to-70)) (omega (arith, c.in-65-to-70))
 
-pub returns : goal.returns
-returns c = sym (lower-same _ (sym c.within.ensures ∙ c.if-within.false))
+pub returns-in_default : goal.returns-in_default
+returns-in_default c = lower-other _ (λ x y. omega (arith, c.in_default))
+
+pub returns-in_default-2 : goal.returns-in_default-2
+returns-in_default-2 c = lower-other _ (λ x y. omega (arith, c.in_default))

@@ -1,13 +1,11 @@
--- `nums::read_decimal` meets its contract: an empty word is none (`decimal-none`), and the reader in any base decides the rest (`decimal-is`).
-use native.Mathlib.Omega.{arith}
-use mathlib.Core.Path.{sym, ◌∙◌}
+-- `nums::read_decimal` meets its contract: no digit is no number.
+use Rattle.std.proofs.Common.{arith, sym}
+use Rattle.forms.specs.TextLaws.{empty, not-empty}
 use Rattle.forms.specs.NumLaws as W
 use Rattle.forms.proofs.nums.read_decimal.Goals as goal
 
-pub returns-then-start-end : goal.returns-then-start-end
-returns-then-start-end c =
-    sym (W.decimal-none _ _ (W.part_length c.args.line.now c.args.start c.args.end (omega arith) (omega arith) ∙ omega arith))
+pub returns-then-is_empty : goal.returns-then-is_empty
+returns-then-is_empty c = sym (W.decimal-none _ _ (empty _ _ c.is_empty.ensures c.if-is_empty.true))
 
 pub returns : goal.returns
-returns c =
-    W.decimal-is _ _ c.read_number.result (omega (arith, c.if-start-end.false, W.part_length c.args.line.now c.args.start c.args.end (omega arith) (omega arith))) c.read_number.ensures
+returns c = W.decimal-is _ _ _ (omega (arith, not-empty _ _ c.is_empty.ensures c.if-is_empty.false)) c.read_number.ensures

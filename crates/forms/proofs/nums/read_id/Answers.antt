@@ -1,24 +1,31 @@
--- `nums::read_id` meets its contract: its tests are those of `is_hex`, in order.
-use native.Mathlib.Omega.{arith}
-use mathlib.Core.Path.{sym, ap, ◌∙◌}
+-- `nums::read_id` meets its contract: the parts that it reads are the last 16 digits, those before them, and so on.
+use Rattle.std.proofs.Common.{arith, sym, ◌∙◌}
+use Rattle.forms.specs.TextLaws.{empty, not-empty}
 use Rattle.forms.specs.NumLaws as W
-use Rattle.forms.specs.declared.nums.IdRead.TheVariants.{Of}
 use Rattle.forms.proofs.nums.read_id.Goals as goal
 
-pub returns-then-start-end : goal.returns-then-start-end
-returns-then-start-end c =
-    sym (W.id-none _ (W.part_length c.args.line.now c.args.start c.args.end (omega arith) (omega arith) ∙ omega arith))
+pub returns-then-is_empty : goal.returns-then-is_empty
+returns-then-is_empty c = sym (W.id-none _ (empty _ _ c.is_empty.ensures c.if-is_empty.true))
 
-pub returns-then-end-start-gt64 : goal.returns-then-end-start-gt64
-returns-then-end-start-gt64 c =
-    sym (W.id-long _ (omega (arith, W.part_length c.args.line.now c.args.start c.args.end (omega arith) (omega arith))))
+pub returns-then-word-gt64 : goal.returns-then-word-gt64
+returns-then-word-gt64 c = sym (W.id-long _ c.if-word-gt64.true)
 
-pub returns-then-all_hex : goal.returns-then-all_hex
-returns-then-all_hex c =
-    let n = W.part_length c.args.line.now c.args.start c.args.end (omega arith) (omega arith) in
-    ap Of c.hex_id.ensures ∙ sym (W.id-yes _ (omega (arith, c.if-start-end.false)) (omega arith) (sym c.all_hex.ensures ∙ c.if-all_hex.true))
+pub returns-in_err-read_number : goal.returns-in_err-read_number
+returns-in_err-read_number c =
+    c.from_residual.ensures ∙ (W.cut-no-a _ _ _ _ _ _ _ (omega (arith, not-empty _ _ c.is_empty.ensures c.if-is_empty.false)) (omega (arith, c.if-word-gt64.false)) c.cut_word.ensures.front c.cut_word.ensures.last c.cut_word-2.ensures.front c.cut_word-2.ensures.last c.cut_word-3.ensures.front c.cut_word-3.ensures.last c.in_err-read_number.ensures)
+
+pub returns-in_err-read_number-2 : goal.returns-in_err-read_number-2
+returns-in_err-read_number-2 c =
+    c.from_residual-in_err-read_number-2.ensures ∙ (W.cut-no-b _ _ _ _ _ _ _ (omega (arith, not-empty _ _ c.is_empty.ensures c.if-is_empty.false)) (omega (arith, c.if-word-gt64.false)) c.cut_word.ensures.front c.cut_word.ensures.last c.cut_word-2.ensures.front c.cut_word-2.ensures.last c.cut_word-3.ensures.front c.cut_word-3.ensures.last c.in_err-read_number-2.ensures)
+
+pub returns-in_err-read_number-3 : goal.returns-in_err-read_number-3
+returns-in_err-read_number-3 c =
+    c.from_residual-in_err-read_number-3.ensures ∙ (W.cut-no-c _ _ _ _ _ _ _ (omega (arith, not-empty _ _ c.is_empty.ensures c.if-is_empty.false)) (omega (arith, c.if-word-gt64.false)) c.cut_word.ensures.front c.cut_word.ensures.last c.cut_word-2.ensures.front c.cut_word-2.ensures.last c.cut_word-3.ensures.front c.cut_word-3.ensures.last c.in_err-read_number-3.ensures)
+
+pub returns-in_err-read_number-4 : goal.returns-in_err-read_number-4
+returns-in_err-read_number-4 c =
+    c.from_residual-in_err-read_number-4.ensures ∙ (W.cut-no-d _ _ _ _ _ _ _ (omega (arith, not-empty _ _ c.is_empty.ensures c.if-is_empty.false)) (omega (arith, c.if-word-gt64.false)) c.cut_word.ensures.front c.cut_word.ensures.last c.cut_word-2.ensures.front c.cut_word-2.ensures.last c.cut_word-3.ensures.front c.cut_word-3.ensures.last c.in_err-read_number-4.ensures)
 
 pub returns : goal.returns
 returns c =
-    let n = W.part_length c.args.line.now c.args.start c.args.end (omega arith) (omega arith) in
-    sym (W.id_other _ (omega (arith, c.if-start-end.false)) (omega arith) (sym c.all_hex.ensures ∙ c.if-all_hex.false))
+    W.cut-id _ _ _ _ _ _ _ (omega (arith, not-empty _ _ c.is_empty.ensures c.if-is_empty.false)) (omega (arith, c.if-word-gt64.false)) c.cut_word.ensures.front c.cut_word.ensures.last c.cut_word-2.ensures.front c.cut_word-2.ensures.last c.cut_word-3.ensures.front c.cut_word-3.ensures.last _ _ _ _ c.in_ok-read_number.ensures c.in_ok-read_number-2.ensures c.in_ok-read_number-3.ensures c.in_ok-read_number-4.ensures

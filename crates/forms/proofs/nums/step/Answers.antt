@@ -1,14 +1,20 @@
--- `nums::step` meets its contract: v * base + d passes the limit exactly if v passes the quotient. Assumes nothing.
-use Rattle.forms.specs.NumLaws as W
+-- `nums::step` meets its contract: the number with one digit more is within the limit, or past it.
+use Rattle.std.proofs.Common.{arith, sym, subst, Option, ℕ, ◌+◌, ◌*◌}
+use Rattle.forms.specs.Nums as T
 use Rattle.forms.proofs.nums.step.Goals as goal
 
-pub returns-then-limit-d : goal.returns-then-limit-d
-returns-then-limit-d c = W.step-big c.args.limit c.args.v c.args.base c.args.d c.if-limit-d.true
+pub returns-in_err-checked_mul : goal.returns-in_err-checked_mul
+unfolding T.Stepped
+returns-in_err-checked_mul c = subst (λ (o : Option ℕ). T.Stepped c.args.limit (c.args.v * c.args.base + c.args.d) o) (sym c.from_residual.ensures) (omega (arith, c.in_err-checked_mul.ensures))
 
-pub returns-then-limit-d-2 : goal.returns-then-limit-d-2
-returns-then-limit-d-2 c =
-    W.step-over c.args.limit c.args.v c.args.base c.args.d c.requires c.if-limit-d.false c.if-limit-d-2.true
+pub returns-in_err-n : goal.returns-in_err-n
+unfolding T.Stepped
+returns-in_err-n c = subst (λ (o : Option ℕ). T.Stepped c.args.limit (c.args.v * c.args.base + c.args.d) o) (sym c.from_residual-in_err-n.ensures) (omega (arith, c.in_ok-checked_mul.ensures, c.in_err-n.ensures))
+
+pub returns-then-limit-n : goal.returns-then-limit-n
+unfolding T.Stepped
+returns-then-limit-n c = omega (arith, c.in_ok-checked_mul.ensures, c.in_ok-n.ensures, c.if-limit-n.true)
 
 pub returns : goal.returns
-returns c =
-    W.step_in c.args.limit c.args.v c.args.base c.args.d c.requires c.if-limit-d.false c.if-limit-d-2.false
+unfolding T.Stepped
+returns c = (omega (arith, c.in_ok-checked_mul.ensures, c.in_ok-n.ensures), omega (arith, c.in_ok-checked_mul.ensures, c.in_ok-n.ensures, c.if-limit-n.false))

@@ -1,43 +1,45 @@
--- `text::form` and `text::list` meet their contracts, from the laws of the form reader and the list reader. Assumes nothing.
-use Rattle.std.proofs.Common.{arith}
+-- `text::form` and `text::list` meet their contracts, from the laws of the form reader and the list reader.
+use Rattle.forms.specs.Text as T
 use Rattle.forms.specs.TextLaws as W
 use Rattle.forms.proofs.text.+form_list.Goals as goal
 
+pub form-returns-in_err-first : goal.form-returns-in_err-first
+form-returns-in_err-first t c = W.if-none _ _ c.from_residual.ensures (W.form-nil _ _ c.in_err-first.ensures.cases)
+
+pub form-returns-then-first-ne40 : goal.form-returns-then-first-ne40
+form-returns-then-first-ne40 t c = W.form-other _ _ _ _ c.in_ok-first.ensures.cases.0 c.if-first-ne40.true
+
 pub form-returns-then-depth-eq0 : goal.form-returns-then-depth-eq0
-form-returns-then-depth-eq0 t c = W.form-zero c.args.line.now c.args.at c.args.depth c.if-depth-eq0.true
-
-pub form-returns-then-line-at-eq40 : goal.form-returns-then-line-at-eq40
-form-returns-then-line-at-eq40 t c = W.form_in c.args.line.now c.args.at c.args.depth c.list.result c.if-depth-eq0.false (omega arith) c.if-line-at-eq40.true c.list.ensures
-
-pub form-returns-then-at-line : goal.form-returns-then-at-line
-form-returns-then-at-line t c = W.form-other c.args.line.now c.args.at c.args.depth (omega arith) c.if-line-at-eq40.false
+form-returns-then-depth-eq0 t c = W.form-zero _ _ _ _ c.in_ok-first.ensures.cases.0 c.if-depth-eq0.true
 
 pub form-returns : goal.form-returns
-form-returns t c = W.form-end c.args.line.now c.args.at c.args.depth (omega arith)
+form-returns t c = W.form-list _ _ _ _ c.in_ok-first.ensures.cases.0 (λ z. z.now) c.if-first-ne40.false c.if-depth-eq0.false c.list.result c.list.ensures
+
+pub list-returns-in_err-behind : goal.list-returns-in_err-behind
+unfolding T.Next
+list-returns-in_err-behind t c = W.if-none _ _ c.from_residual.ensures (W.ends-bad _ _ _ _ c.loop-behind.invariant c.in_err-behind.ensures)
 
 pub list-returns-in-Close : goal.list-returns-in-Close
-list-returns-in-Close t c = W.ends_close c.args.line.now c.args.depth c.args.at c.loop-i.i c.loop-i.gap c.loop-i.invariant c.in-Close.e c.in-Close.ensures
+unfolding T.Next
+list-returns-in-Close t c = W.ends_close _ _ _ _ c.loop-behind.invariant _ (W.next-is _ _ _ _ c.in-Close.is c.in_ok-behind.ensures)
 
-pub list-loop-i-smaller-in-Word : goal.list-loop-i-smaller-in-Word
-list-loop-i-smaller-in-Word t c = W.less-word c.args.line.now c.args.depth c.args.at c.loop-i.i c.loop-i.gap c.loop-i.invariant _ _ c.in-Word.ensures (omega arith)
+pub list-returns-in_err-rest-in-Open : goal.list-returns-in_err-rest-in-Open
+unfolding T.Next
+list-returns-in_err-rest-in-Open t c =
+    W.if-none _ _ c.from_residual-in_err-rest-in-Open.ensures (W.ends-form _ _ _ _ c.loop-behind.invariant _ _ (W.next-is _ _ _ _ c.in-Open.is c.in_ok-behind.ensures) c.in_err-rest-in-Open.ensures)
 
-pub list-loop-i-preserved-in-Word : goal.list-loop-i-preserved-in-Word
-list-loop-i-preserved-in-Word t c = W.goes-word c.args.line.now c.args.depth c.args.at c.loop-i.i c.loop-i.gap c.loop-i.invariant _ _ c.in-Word.ensures
+pub list-loop-behind-smaller-in-Word : goal.list-loop-behind-smaller-in-Word
+unfolding T.Next
+list-loop-behind-smaller-in-Word t c = W.word-less _ _ _ _ (W.next-is _ _ _ _ c.in-Word.is c.in_ok-behind.ensures)
 
-pub list-form-requires : goal.list-form-requires
-list-form-requires t c = (omega arith, W.open-inside c.args.line.now c.args.depth c.args.at c.loop-i.i c.loop-i.gap c.loop-i.invariant _ c.in-Open.ensures)
+pub list-loop-behind-preserved-in-Word : goal.list-loop-behind-preserved-in-Word
+unfolding T.Next
+list-loop-behind-preserved-in-Word t c = W.goes-word _ _ _ _ c.loop-behind.invariant _ _ (W.next-is _ _ _ _ c.in-Word.is c.in_ok-behind.ensures)
 
-pub list-loop-i-smaller : goal.list-loop-i-smaller
-list-loop-i-smaller t c = W.less-list c.args.line.now c.args.depth c.args.at c.loop-i.i c.loop-i.gap c.loop-i.invariant _ _ c.in-Open.ensures c.in-At.ensures (omega arith)
+pub list-loop-behind-smaller : goal.list-loop-behind-smaller
+unfolding T.Next
+list-loop-behind-smaller t c = W.list-less _ _ _ _ _ _ (W.next-is _ _ _ _ c.in-Open.is c.in_ok-behind.ensures) c.in_ok-rest-in-Open.ensures
 
-pub list-loop-i-preserved : goal.list-loop-i-preserved
-list-loop-i-preserved t c = W.goes-list c.args.line.now c.args.depth c.args.at c.loop-i.i c.loop-i.gap c.loop-i.invariant _ _ c.in-Open.ensures c.in-At.ensures
-
-pub list-returns-in-Not : goal.list-returns-in-Not
-list-returns-in-Not t c = W.ends-form c.args.line.now c.args.depth c.args.at c.loop-i.i c.loop-i.gap c.loop-i.invariant _ c.in-Open.ensures c.in-Not.ensures
-
-pub list-returns-in-Bad : goal.list-returns-in-Bad
-list-returns-in-Bad t c = W.ends-bad c.args.line.now c.args.depth c.args.at c.loop-i.i c.loop-i.gap c.loop-i.invariant c.in-Bad.ensures
-
-pub list-returns : goal.list-returns
-list-returns t c = W.ends-end c.args.line.now c.args.depth c.args.at c.loop-i.i c.loop-i.gap c.loop-i.invariant (omega arith)
+pub list-loop-behind-preserved : goal.list-loop-behind-preserved
+unfolding T.Next
+list-loop-behind-preserved t c = W.goes-list _ _ _ _ c.loop-behind.invariant _ _ _ (W.next-is _ _ _ _ c.in-Open.is c.in_ok-behind.ensures) c.in_ok-rest-in-Open.ensures

@@ -1,13 +1,25 @@
--- `text::is_word` meets its contract: each of its tests is one of `is_word`'s. Assumes nothing.
-use mathlib.Core.Path.{sym, ◌∙◌}
+-- `text::is_word` meets its contract: its three ranges are those of `is_word`.
+use Rattle.std.proofs.Common.{arith}
 use Rattle.forms.specs.TextLaws as W
 use Rattle.forms.proofs.text.is_word.Goals as goal
 
-pub returns-then-within : goal.returns-then-within
-returns-then-within c = sym (W.word-1 _ (sym c.within.ensures ∙ c.if-within.true))
+pub returns-in-48-to-57 : goal.returns-in-48-to-57
+returns-in-48-to-57 c = W.word-digit _ (omega (arith, c.in-48-to-57)) (omega (arith, c.in-48-to-57))
 
-pub returns-then-within-2 : goal.returns-then-within-2
-returns-then-within-2 c = sym (W.word-2 _ (sym c.within-2.ensures ∙ c.if-within-2.true))
+pub returns-in-48-to-57-2 : goal.returns-in-48-to-57-2
+returns-in-48-to-57-2 c = W.word-high _ (omega (arith, c.in-48-to-57)) (omega (arith, c.in-48-to-57))
 
-pub returns : goal.returns
-returns c = c.within-3.ensures ∙ sym (W.word-3 _ (sym c.within.ensures ∙ c.if-within.false) (sym c.within-2.ensures ∙ c.if-within-2.false))
+pub returns-in-48-to-57-3 : goal.returns-in-48-to-57-3
+returns-in-48-to-57-3 c = W.word-low _ (omega (arith, c.in-48-to-57)) (omega (arith, c.in-48-to-57))
+
+pub returns-in_default : goal.returns-in_default
+returns-in_default c = W.no-word _ (λ x y. omega (arith, c.in_default)) (λ x y. omega (arith, c.in_default)) (λ x y. omega (arith, c.in_default))
+
+pub returns-in_default-2 : goal.returns-in_default-2
+returns-in_default-2 c = W.no-word _ (λ x y. omega (arith, c.in_default)) (λ x y. omega (arith, c.in_default)) (λ x y. omega (arith, c.in_default))
+
+pub returns-in_default-3 : goal.returns-in_default-3
+returns-in_default-3 c = W.no-word _ (λ x y. omega (arith, c.in_default)) (λ x y. omega (arith, c.in_default)) (λ x y. omega (arith, c.in_default))
+
+pub returns-in_default-4 : goal.returns-in_default-4
+returns-in_default-4 c = W.no-word _ (λ x y. omega (arith, c.in_default)) (λ x y. omega (arith, c.in_default)) (λ x y. omega (arith, c.in_default))

@@ -1,28 +1,21 @@
--- `text::read_line` meets its contract: a form, with spaces before and after it and nothing else. Assumes nothing.
-use Rattle.std.proofs.Common.{arith, sym, ◌∙◌}
-use Rattle.forms.specs.Text.{is_space}
+-- `text::read_line` meets its contract: a form, with spaces before and after it and nothing else.
+use Rattle.std.proofs.Common.{arith}
 use Rattle.forms.specs.TextLaws as W
 use Rattle.forms.proofs.text.read_line.Goals as goal
 
 pub returns-then-line-gt4096 : goal.returns-then-line-gt4096
-returns-then-line-gt4096 c = W.line-long c.args.line.now (omega arith)
+returns-then-line-gt4096 c = W.line-long _ c.if-line-gt4096.true
 
-pub form-requires : goal.form-requires
-form-requires c = omega (arith, c.skip-i.ensures, W.run_in is_space c.args.line.now 0 (omega arith))
+pub returns-in_err-behind : goal.returns-in_err-behind
+returns-in_err-behind c = W.if-none _ _ c.from_residual.ensures (W.line-none _ _ c.past_spaces-here.ensures c.in_err-behind.ensures)
 
-pub skip-requires : goal.skip-requires
-skip-requires c = W.form-inside _ _ _ _ c.in-At.ensures
+pub returns-then-not-is_empty : goal.returns-then-not-is_empty
+returns-then-not-is_empty c = W.line-tail _ _ c.past_spaces-here.ensures _ _ c.in_ok-behind.ensures c.past_spaces.ensures (W.not-empty _ _ c.is_empty.ensures c.if-not-is_empty.true)
 
-pub overflow_add-result : goal.overflow_add-result
-overflow_add-result c = omega (arith, c.skip-i.ensures, W.run_in is_space c.args.line.now 0 (omega arith))
+pub returns-in_err-inside : goal.returns-in_err-inside
+returns-in_err-inside c =
+    W.if-none _ _ c.from_residual-in_err-inside.ensures (W.line-none _ _ c.past_spaces-here.ensures (W.form-nil _ _ c.in_err-inside.ensures.cases))
 
-pub returns-in-Not : goal.returns-in-Not
-returns-in-Not c = W.line-none c.args.line.now c.skip-i.result c.skip-i.ensures c.in-Not.ensures
-
-pub returns-then-skip-line : goal.returns-then-skip-line
-returns-then-skip-line c =
-    W.line_at c.args.line.now c.skip-i.result c.skip-i.ensures c.in-At.e (omega arith) c.in-At.ensures (sym c.if-skip-line.true ∙ c.skip.ensures)
-
-pub returns-else-skip-line : goal.returns-else-skip-line
-returns-else-skip-line c =
-    W.line-tail c.args.line.now c.skip-i.result c.skip-i.ensures c.in-At.e c.skip.result c.in-At.ensures c.skip.ensures c.if-skip-line.false
+pub returns : goal.returns
+returns c =
+    W.line_at _ _ c.past_spaces-here.ensures _ _ c.in_ok-behind.ensures c.past_spaces.ensures (omega (arith, c.if-line-gt4096.false)) (W.empty _ _ c.is_empty.ensures c.if-not-is_empty.false) _ _ c.in_ok-inside.ensures.cases.0

@@ -1,10 +1,9 @@
-use Prim.Native.Nat.{◌-◌}
-use lib.ListN.{length}
+use Rattle.std.proofs.Common.{length}
 use Rattle.lines.specs.BlockLaws as L
 use Rattle.lines.proofs.blocks.all_txs.Given as goal
 
-abbrev pub invariant-loop-i : goal.invariant-loop-i
-invariant-loop-i l = L.Moves l.line l.depth l.at l.i l.gap l.initial.first l.first l.initial.second l.second l.k l.j
+abbrev pub invariant-loop-rest : goal.invariant-loop-rest
+invariant-loop-rest l = L.Moves l.inside l.depth l.rest l.gap l.initial.first l.first l.initial.second l.second l.k l.j
 
-abbrev pub decreases-loop-i : goal.decreases-loop-i
-decreases-loop-i l = length l.line - l.i
+abbrev pub decreases-loop-rest : goal.decreases-loop-rest
+decreases-loop-rest l = length l.rest

@@ -1,24 +1,24 @@
--- `blocks::put_tx` meets its contract: the id and the list of boxes inside the brackets are read, and where they end the record is written.
-use native.Mathlib.Omega.{arith}
-use Rattle.lines.specs.FieldLaws as W
+-- `blocks::put_tx` meets its contract: an id and a list of boxes, then the end, and the record is written.
+use Rattle.std.proofs.Common.{refl}
+use Rattle.forms.specs.TextLaws.{if-none}
 use Rattle.lines.specs.Items as I
 use Rattle.lines.specs.BlockLaws as L
 use Rattle.lines.proofs.blocks.put_tx.Goals as goal
 
-pub returns-in_default : goal.returns-in_default
-returns-in_default c =
-    L.tx-none c.args.line.now c.args.at c.args.gap c.args.depth c.args.k c.args.first.now c.args.tail.now _ _ (W.at-list c.args.line.now c.args.at c.args.gap c.args.depth _ _ c.list_here.ensures c.in_default.is)
+pub returns-in_err-inside : goal.returns-in_err-inside
+returns-in_err-inside c = if-none _ _ c.from_residual.ensures (L.tx-none _ _ _ _ c.in_err-inside.ensures)
 
-pub id-x-requires : goal.id-x-requires
-id-x-requires c =
-    let w = W.list-in c.args.line.now c.args.at c.args.gap c.args.depth _ _ _ c.list_here.ensures c.in-Is.is in omega (arith, w.1, w.2)
+pub returns-in_err-id : goal.returns-in_err-id
+returns-in_err-id c = if-none _ _ c.from_residual-in_err-id.ensures (L.tx-no-id _ _ _ _ _ c.in_ok-inside.ensures _ c.in_err-id.ensures)
 
-pub returns-then-end_here : goal.returns-then-end_here
+pub returns-in_err-words : goal.returns-in_err-words
 unfolding I.item_of
-returns-then-end_here c =
-    L.tx-yes c.args.line.now c.args.at c.args.gap c.args.depth c.args.k c.args.first.now c.args.tail.now _ _ _ (W.at-list c.args.line.now c.args.at c.args.gap c.args.depth _ _ c.list_here.ensures c.in-Is.is) _ _ c.id-x.ensures _ _ c.list_field-boxes.ensures _ c.end_here.ensures _ _ c.if-end_here.true c.requires.2 c.put_id.ensures (omega arith)
+returns-in_err-words c = if-none _ _ c.from_residual-in_err-words.ensures (L.tx-no-boxes _ _ _ _ _ c.in_ok-inside.ensures _ _ c.in_ok-id.ensures _ c.in_err-words.ensures)
+
+pub returns-then-not-ends : goal.returns-then-not-ends
+unfolding I.item_of
+returns-then-not-ends c = L.tx-off _ _ _ _ _ c.in_ok-inside.ensures _ _ c.in_ok-id.ensures _ _ _ _ c.in_ok-words.ensures _ c.ends.ensures c.if-not-ends.true
 
 pub returns : goal.returns
 unfolding I.item_of
-returns c =
-    L.tx-off c.args.line.now c.args.at c.args.gap c.args.depth c.args.k c.args.first.now c.args.tail.now _ _ _ (W.at-list c.args.line.now c.args.at c.args.gap c.args.depth _ _ c.list_here.ensures c.in-Is.is) _ _ c.id-x.ensures _ _ c.list_field-boxes.ensures _ c.end_here.ensures _ c.if-end_here.false
+returns c = L.tx-yes _ _ _ _ _ c.in_ok-inside.ensures _ _ c.in_ok-id.ensures _ _ _ _ c.in_ok-words.ensures _ c.ends.ensures _ _ _ _ c.if-not-ends.false c.requires.1 c.put_id.ensures refl

@@ -1,21 +1,13 @@
 -- `fields::verdict_field` meets its contract: a list stands next, and its members are a verdict's.
-use native.Mathlib.Omega.{arith}
-use mathlib.Core.Bool.{false}
+use Rattle.forms.specs.TextLaws.{if-none}
 use Rattle.lines.specs.FieldLaws as W
 use Rattle.lines.proofs.fields.verdict_field.Goals as goal
 
-pub returns-in_default : goal.returns-in_default
-returns-in_default c =
-    W.verdict-none c.args.line.now c.args.at c.args.depth (W.at-list c.args.line.now c.args.at false c.args.depth _ _ c.list_here.ensures c.in_default.is)
+pub returns-in_err-inside : goal.returns-in_err-inside
+returns-in_err-inside c = if-none _ _ c.from_residual.ensures (W.verdict-none _ _ c.in_err-inside.ensures)
 
-pub judge-inside-requires : goal.judge-inside-requires
-judge-inside-requires c =
-    let w = W.list-in c.args.line.now c.args.at false c.args.depth _ _ _ c.list_here.ensures c.in-Is.is in omega (arith, w.1, w.2)
-
-pub returns-then-inside : goal.returns-then-inside
-returns-then-inside c =
-    W.verdict-yes c.args.line.now c.args.at c.args.depth _ _ (W.at-list c.args.line.now c.args.at false c.args.depth _ _ c.list_here.ensures c.in-Is.is) _ _ c.judge-inside.ensures c.if-inside.true
+pub returns-in_err-verdict : goal.returns-in_err-verdict
+returns-in_err-verdict c = if-none _ _ c.from_residual-in_err-verdict.ensures (W.verdict-off _ _ _ _ c.in_ok-inside.ensures c.in_err-verdict.ensures)
 
 pub returns : goal.returns
-returns c =
-    W.verdict-off c.args.line.now c.args.at c.args.depth _ _ (W.at-list c.args.line.now c.args.at false c.args.depth _ _ c.list_here.ensures c.in-Is.is) _ _ c.judge-inside.ensures c.if-inside.false
+returns c = W.verdict-yes _ _ _ _ c.in_ok-inside.ensures _ c.in_ok-verdict.ensures

@@ -1,31 +1,26 @@
--- `items::put_height` meets its contract: the fields inside the brackets are read, their words are written, and the list must end.
-use native.Mathlib.Omega.{arith}
-use mathlib.Core.Path.{refl, ap}
-use mathlib.Core.List.{List}
-use Prim.Native.Nat.{ℕ, ◌+◌}
-use lib.ListN.{set}
-use Rattle.lines.specs.FieldLaws as W
+-- `items::put_height` meets its contract: the fields are read one behind the other, then the end, and their words are written.
+use Rattle.std.proofs.Common.{arith, refl, sym, ap, ◌∙◌, ◌+◌, List, ℕ, set}
+use Rattle.forms.specs.TextLaws.{if-none}
 use Rattle.lines.specs.Items as I
 use Rattle.lines.specs.ItemLaws as L
 use Rattle.lines.proofs.items.put_height.Goals as goal
 
-pub returns-in_default : goal.returns-in_default
+pub returns-in_err-inside : goal.returns-in_err-inside
 unfolding I.heights I.height_words
-returns-in_default c =
-    L.item-none 5 I.height_words I.is_height (λ i. refl) L.height-gone c.args.line.now c.args.at c.args.gap c.args.depth c.args.k c.args.out.now c.requires.1 (W.at-list c.args.line.now c.args.at c.args.gap c.args.depth _ _ c.list_here.ensures c.in_default.is)
+returns-in_err-inside c = if-none _ _ c.from_residual.ensures (L.item-none 5 I.height_words I.is_height (λ i. refl) _ _ _ L.height-gone c.in_err-inside.ensures)
 
-pub id-x-requires : goal.id-x-requires
-id-x-requires c =
-    let w = W.list-in c.args.line.now c.args.at c.args.gap c.args.depth _ _ _ c.list_here.ensures c.in-Is.is in omega (arith, w.1, w.2)
-
-pub returns-then-end_here : goal.returns-then-end_here
+pub returns-in_err-id : goal.returns-in_err-id
 unfolding I.heights I.height_words
-returns-then-end_here c =
-    let at-number = c.number-height in
-    L.item-yes 5 I.height_words I.is_height (λ i. refl) L.height-gone c.args.line.now c.args.at c.args.gap c.args.depth c.args.k c.args.out.now c.requires.1 _ _ (W.at-list c.args.line.now c.args.at c.args.gap c.args.depth _ _ c.list_here.ensures c.in-Is.is) _ _ refl (L.inner-height c.args.line.now _ _ _ _ c.id-x.ensures _ _ at-number.ensures.is c.end_here.ensures) _ (ap (λ (z : List ℕ). set z (c.args.k + 4) at-number.result.value) c.put_id.ensures) c.if-end_here.true
+returns-in_err-id c = if-none _ _ c.from_residual-in_err-id.ensures (L.item-off 5 I.height_words I.is_height (λ i. refl) _ _ _ _ _ c.in_ok-inside.ensures (L.no-id-height _ c.in_err-id.ensures))
+
+pub returns-in_err-height : goal.returns-in_err-height
+unfolding I.heights I.height_words
+returns-in_err-height c = if-none _ _ c.from_residual-in_err-height.ensures (L.item-off 5 I.height_words I.is_height (λ i. refl) _ _ _ _ _ c.in_ok-inside.ensures (L.no-height _ _ _ c.in_ok-id.ensures c.in_err-height.ensures))
+
+pub returns-then-not-ends : goal.returns-then-not-ends
+unfolding I.heights I.height_words
+returns-then-not-ends c = L.item-off 5 I.height_words I.is_height (λ i. refl) _ _ _ _ _ c.in_ok-inside.ensures (L.no-height-end _ _ _ c.in_ok-id.ensures _ _ _ c.ends.ensures c.in_ok-height.ensures c.if-not-ends.true)
 
 pub returns : goal.returns
 unfolding I.heights I.height_words
-returns c =
-    let at-number = c.number-height in
-    L.item-off 5 I.height_words I.is_height (λ i. refl) L.height-gone c.args.line.now c.args.at c.args.gap c.args.depth c.args.k c.args.out.now c.requires.1 _ _ (W.at-list c.args.line.now c.args.at c.args.gap c.args.depth _ _ c.list_here.ensures c.in-Is.is) _ _ refl (L.inner-height c.args.line.now _ _ _ _ c.id-x.ensures _ _ at-number.ensures.is c.end_here.ensures) _ (ap (λ (z : List ℕ). set z (c.args.k + 4) at-number.result.value) c.put_id.ensures) c.if-end_here.false
+returns c = L.item-yes 5 I.height_words I.is_height (λ i. refl) _ _ _ _ _ c.in_ok-inside.ensures c.args.k c.args.out.now c.requires _ refl (L.inner-height _ _ _ c.in_ok-id.ensures _ _ _ c.ends.ensures c.in_ok-height.ensures c.if-not-ends.false) _ (ap (λ (z : List ℕ). set z (c.args.k + 4) c.in_ok-height.height) c.put_id.ensures)

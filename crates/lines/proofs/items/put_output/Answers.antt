@@ -1,26 +1,34 @@
--- `items::put_output` meets its contract: the fields inside the brackets are read, their words are written, and the list must end.
-use native.Mathlib.Omega.{arith}
-use mathlib.Core.Path.{refl}
-use Rattle.lines.specs.FieldLaws as W
+-- `items::put_output` meets its contract: the fields are read one behind the other, then the end, and their words are written.
+use Rattle.std.proofs.Common.{arith, refl, sym, ap, ◌∙◌, ◌+◌, List, ℕ, set}
+use Rattle.forms.specs.TextLaws.{if-none}
 use Rattle.lines.specs.Items as I
 use Rattle.lines.specs.ItemLaws as L
 use Rattle.lines.proofs.items.put_output.Goals as goal
 
-pub returns-in_default : goal.returns-in_default
+pub returns-in_err-inside : goal.returns-in_err-inside
 unfolding I.outputs I.output_words
-returns-in_default c =
-    L.item-none 7 I.output_words I.is_output (λ i. refl) L.output-gone c.args.line.now c.args.at c.args.gap c.args.depth c.args.k c.args.out.now c.requires.1 (W.at-list c.args.line.now c.args.at c.args.gap c.args.depth _ _ c.list_here.ensures c.in_default.is)
+returns-in_err-inside c = if-none _ _ c.from_residual.ensures (L.item-none 7 I.output_words I.is_output (λ i. refl) _ _ _ L.output-gone c.in_err-inside.ensures)
 
-pub id-x-requires : goal.id-x-requires
-id-x-requires c =
-    let w = W.list-in c.args.line.now c.args.at c.args.gap c.args.depth _ _ _ c.list_here.ensures c.in-Is.is in omega (arith, w.1, w.2)
-
-pub returns-then-end_here : goal.returns-then-end_here
+pub returns-in_err-id : goal.returns-in_err-id
 unfolding I.outputs I.output_words
-returns-then-end_here c =
-    L.item-yes 7 I.output_words I.is_output (λ i. refl) L.output-gone c.args.line.now c.args.at c.args.gap c.args.depth c.args.k c.args.out.now c.requires.1 _ _ (W.at-list c.args.line.now c.args.at c.args.gap c.args.depth _ _ c.list_here.ensures c.in-Is.is) _ _ refl (L.inner-output c.args.line.now _ _ _ _ c.id-x.ensures _ _ _ _ _ _ c.number64-amount.ensures c.choice-fee.ensures c.number-height.ensures.is c.end_here.ensures) _ c.put_seven.ensures c.if-end_here.true
+returns-in_err-id c = if-none _ _ c.from_residual-in_err-id.ensures (L.item-off 7 I.output_words I.is_output (λ i. refl) _ _ _ _ _ c.in_ok-inside.ensures (L.no-id-output _ c.in_err-id.ensures))
+
+pub returns-in_err-amount : goal.returns-in_err-amount
+unfolding I.outputs I.output_words
+returns-in_err-amount c = if-none _ _ c.from_residual-in_err-amount.ensures (L.item-off 7 I.output_words I.is_output (λ i. refl) _ _ _ _ _ c.in_ok-inside.ensures (L.no-amount _ _ _ c.in_ok-id.ensures c.in_err-amount.ensures))
+
+pub returns-in_err-fee : goal.returns-in_err-fee
+unfolding I.outputs I.output_words
+returns-in_err-fee c = if-none _ _ c.from_residual-in_err-fee.ensures (L.item-off 7 I.output_words I.is_output (λ i. refl) _ _ _ _ _ c.in_ok-inside.ensures (L.no-fee _ _ _ c.in_ok-id.ensures _ _ c.in_ok-amount.ensures c.in_err-fee.ensures))
+
+pub returns-in_err-height : goal.returns-in_err-height
+unfolding I.outputs I.output_words
+returns-in_err-height c = if-none _ _ c.from_residual-in_err-height.ensures (L.item-off 7 I.output_words I.is_output (λ i. refl) _ _ _ _ _ c.in_ok-inside.ensures (L.no-output-height _ _ _ c.in_ok-id.ensures _ _ c.in_ok-amount.ensures _ _ c.in_ok-fee.ensures c.in_err-height.ensures))
+
+pub returns-then-not-ends : goal.returns-then-not-ends
+unfolding I.outputs I.output_words
+returns-then-not-ends c = L.item-off 7 I.output_words I.is_output (λ i. refl) _ _ _ _ _ c.in_ok-inside.ensures (L.no-output _ _ _ c.in_ok-id.ensures _ _ c.in_ok-amount.ensures _ _ c.in_ok-fee.ensures _ _ c.in_ok-height.ensures _ c.ends.ensures c.if-not-ends.true)
 
 pub returns : goal.returns
 unfolding I.outputs I.output_words
-returns c =
-    L.item-off 7 I.output_words I.is_output (λ i. refl) L.output-gone c.args.line.now c.args.at c.args.gap c.args.depth c.args.k c.args.out.now c.requires.1 _ _ (W.at-list c.args.line.now c.args.at c.args.gap c.args.depth _ _ c.list_here.ensures c.in-Is.is) _ _ refl (L.inner-output c.args.line.now _ _ _ _ c.id-x.ensures _ _ _ _ _ _ c.number64-amount.ensures c.choice-fee.ensures c.number-height.ensures.is c.end_here.ensures) _ c.put_seven.ensures c.if-end_here.false
+returns c = L.item-yes 7 I.output_words I.is_output (λ i. refl) _ _ _ _ _ c.in_ok-inside.ensures c.args.k c.args.out.now c.requires _ refl (L.inner-output _ _ _ c.in_ok-id.ensures _ _ c.in_ok-amount.ensures _ _ c.in_ok-fee.ensures _ _ c.in_ok-height.ensures _ c.ends.ensures c.if-not-ends.false) _ (c.put_seven.ensures)

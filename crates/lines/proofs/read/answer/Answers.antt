@@ -1,33 +1,40 @@
--- `read::answer` meets its contract: field by field, then the end. Where it is read its lists have room.
-use mathlib.Core.Path.{sym, ◌∙◌}
-use mathlib.Core.Bool.{false}
-use Rattle.lines.specs.FieldLaws as W
+-- `read::answer` meets its contract: field by field, then the end.
+use Rattle.std.proofs.Common.{sym, ◌∙◌}
+use Rattle.lines.specs.declared.read.Form.TheVariants as V
+use Rattle.lines.specs.declared.items.Records.TheVariants as R
+use Rattle.lines.specs.Fields as K
 use Rattle.lines.specs.Items as I
+use Rattle.lines.specs.Blocks as B
+use Rattle.lines.specs.FieldLaws as W
+use Rattle.lines.specs.BlockLaws as C
 use Rattle.lines.specs.Forms as F
 use Rattle.lines.specs.FormLaws as L
-use Rattle.lines.specs.declared.items.Records.TheVariants.{Flags}
-use Rattle.lines.specs.declared.read.Form.TheVariants.{Answer}
 use Rattle.lines.proofs.read.answer.Goals as goal
 
-pub returns-then-end_here : goal.returns-then-end_here
-unfolding F.answer_of F.answer_one
-returns-then-end_here c =
-    let at-list-field = c.list_field-flags in
-    let at-verdict-field = c.verdict_field-verdict in
-    record {
-      is = λ t x h. let a = at-list-field.ensures.is t _ h in
-          let b = at-verdict-field.ensures.is t _ a.1 in
-          F.is_whole _ _ _ _ (W.stands-end c.args.line.now _ false 7 t _ c.end_here.ensures _ b.1) c.if-end_here.true (λ i. Answer (a.0 i) (b.0 i));
-      one = λ o t x h. let a = at-list-field.ensures.is t _ h in
-          let b = at-verdict-field.ensures.is t _ a.1 in
-          at-list-field.ensures.wrote t _ h (L.verdict-room (I.item_of Flags) _ _ (sym (W.stands-end c.args.line.now _ false 7 t _ c.end_here.ensures _ b.1) ∙ c.if-end_here.true));
-    }
+pub returns-in_err-flags : goal.returns-in_err-flags
+unfolding F.answer_of F.answer_one K.NoField K.NoVerdict K.IfEnds I.NoListed B.NoBlock
+returns-in_err-flags c = record {
+  is = λ t s h.
+      L.none-unread _ c.from_residual.ensures ∙ L.unread-gone _ _ (L.verdict-then _ (c.in_err-flags.ensures t _ h));
+  one = λ o. L.none-no _ c.from_residual.ensures o;
+}
+
+pub returns-in_err-verdict : goal.returns-in_err-verdict
+unfolding F.answer_of F.answer_one K.NoField K.NoVerdict K.IfEnds I.NoListed B.NoBlock
+returns-in_err-verdict c = record {
+  is = λ t s h.
+      let x0 = c.in_ok-flags.ensures.is t _ h in
+      L.none-unread _ c.from_residual-in_err-verdict.ensures ∙ L.unread-gone _ _ (c.in_err-verdict.ensures t _ x0.1);
+  one = λ o. L.none-no _ c.from_residual-in_err-verdict.ensures o;
+}
 
 pub returns : goal.returns
-unfolding F.answer_of F.answer_one
+unfolding F.answer_of F.answer_one K.NoField K.NoVerdict K.IfEnds I.NoListed B.NoBlock
 returns c = record {
-  is = λ t x h. let a = c.list_field-flags.ensures.is t _ h in
-      let b = c.verdict_field-verdict.ensures.is t _ a.1 in
-      F.is-not _ _ _ (W.stands-end c.args.line.now _ false 7 t _ c.end_here.ensures _ b.1) c.if-end_here.false;
-  one = λ o. L.unread-no o;
+  is = λ t s h.
+      let x0 = c.in_ok-flags.ensures.is t _ h in
+      let x1 = c.in_ok-verdict.ensures.is t _ x0.1 in
+      L.whole-as _ _ _ _ (L.or-unread _ _ _ (c.if_ends.ensures 7 t _ x1.1)) (λ i. V.Answer (x0.0 i) (x1.0 i));
+  one = λ o t s h.
+      c.in_ok-flags.ensures.wrote t _ h;
 }

@@ -1,36 +1,46 @@
--- `read::block` meets its contract: the time, the transactions, then the end. Where it is read both lists have room.
-use mathlib.Core.Path.{sym, ◌∙◌}
-use mathlib.Core.Bool.{false}
+-- `read::block` meets its contract: field by field, then the end.
+use Rattle.std.proofs.Common.{sym, ◌∙◌}
+use Rattle.lines.specs.declared.read.Form.TheVariants as V
+use Rattle.lines.specs.declared.items.Records.TheVariants as R
+use Rattle.lines.specs.Fields as K
+use Rattle.lines.specs.Items as I
+use Rattle.lines.specs.Blocks as B
 use Rattle.lines.specs.FieldLaws as W
-use Rattle.lines.specs.BlockLaws as K
+use Rattle.lines.specs.BlockLaws as C
 use Rattle.lines.specs.Forms as F
 use Rattle.lines.specs.FormLaws as L
-use Rattle.lines.specs.declared.read.Form.TheVariants.{Block}
 use Rattle.lines.proofs.read.block.Goals as goal
 
-pub returns-then-end_here : goal.returns-then-end_here
-unfolding F.block_of F.block_one F.block_two
-returns-then-end_here c =
-    let at-number64 = c.number64-time in
-    let at-block-field = c.block_field-list in
-    record {
-      is = λ t x h. let a = at-number64.ensures.is 7 t _ h in
-          let b = at-block-field.ensures.is t _ a.1 in
-          F.is_whole _ _ _ _ (W.stands-end c.args.line.now _ false 7 t _ c.end_here.ensures _ b.2) c.if-end_here.true (λ i. Block (record { time = a.0 i; transactions = b.0 i; inputs = b.1 i }));
-      one = λ o t x h. let a = at-number64.ensures.is 7 t _ h in
-          let b = at-block-field.ensures.is t _ a.1 in
-          (at-block-field.ensures.wrote t _ a.1 (K.block_room _ _ _ (sym (W.stands-end c.args.line.now _ false 7 t _ c.end_here.ensures _ b.2) ∙ c.if-end_here.true))).0;
-      two = λ o t x h. let a = at-number64.ensures.is 7 t _ h in
-          let b = at-block-field.ensures.is t _ a.1 in
-          (at-block-field.ensures.wrote t _ a.1 (K.block_room _ _ _ (sym (W.stands-end c.args.line.now _ false 7 t _ c.end_here.ensures _ b.2) ∙ c.if-end_here.true))).1;
-    }
+pub returns-in_err-time : goal.returns-in_err-time
+unfolding F.block_of F.block_one F.block_two K.NoField K.NoVerdict K.IfEnds I.NoListed B.NoBlock
+returns-in_err-time c = record {
+  is = λ t s h.
+      L.none-unread _ c.from_residual.ensures ∙ L.unread-gone _ _ (C.block-then _ _ _ (c.in_err-time.ensures 7 t _ h));
+  one = λ o. L.none-no _ c.from_residual.ensures o;
+  two = λ o. L.none-no _ c.from_residual.ensures o;
+}
+
+pub returns-in_err-transactions : goal.returns-in_err-transactions
+unfolding F.block_of F.block_one F.block_two K.NoField K.NoVerdict K.IfEnds I.NoListed B.NoBlock
+returns-in_err-transactions c = record {
+  is = λ t s h.
+      let x0 = c.in_ok-time.ensures.is 7 t _ h in
+      L.none-unread _ c.from_residual-in_err-transactions.ensures ∙ L.unread-gone _ _ (c.in_err-transactions.ensures t _ x0.1);
+  one = λ o. L.none-no _ c.from_residual-in_err-transactions.ensures o;
+  two = λ o. L.none-no _ c.from_residual-in_err-transactions.ensures o;
+}
 
 pub returns : goal.returns
-unfolding F.block_of F.block_one F.block_two
+unfolding F.block_of F.block_one F.block_two K.NoField K.NoVerdict K.IfEnds I.NoListed B.NoBlock
 returns c = record {
-  is = λ t x h. let a = c.number64-time.ensures.is 7 t _ h in
-      let b = c.block_field-list.ensures.is t _ a.1 in
-      F.is-not _ _ _ (W.stands-end c.args.line.now _ false 7 t _ c.end_here.ensures _ b.2) c.if-end_here.false;
-  one = λ o. L.unread-no o;
-  two = λ o. L.unread-no o;
+  is = λ t s h.
+      let x0 = c.in_ok-time.ensures.is 7 t _ h in
+      let x1 = c.in_ok-transactions.ensures.is t _ x0.1 in
+      L.whole-as _ _ _ _ (L.or-unread _ _ _ (c.if_ends.ensures 7 t _ x1.2)) (λ i. V.Block (record { time = x0.0 i; transactions = x1.0 i; inputs = x1.1 i }));
+  one = λ o t s h.
+      let x0 = c.in_ok-time.ensures.is 7 t _ h in
+      (c.in_ok-transactions.ensures.wrote t _ x0.1).0;
+  two = λ o t s h.
+      let x0 = c.in_ok-time.ensures.is 7 t _ h in
+      (c.in_ok-transactions.ensures.wrote t _ x0.1).1;
 }

@@ -1,20 +1,30 @@
 -- `read::contains` meets its contract: field by field, then the end.
-use mathlib.Core.Bool.{false}
+use Rattle.std.proofs.Common.{sym, ◌∙◌}
+use Rattle.lines.specs.declared.read.Form.TheVariants as V
+use Rattle.lines.specs.declared.items.Records.TheVariants as R
+use Rattle.lines.specs.Fields as K
+use Rattle.lines.specs.Items as I
+use Rattle.lines.specs.Blocks as B
 use Rattle.lines.specs.FieldLaws as W
+use Rattle.lines.specs.BlockLaws as C
 use Rattle.lines.specs.Forms as F
-use Rattle.lines.specs.declared.read.Form.TheVariants.{Contains}
+use Rattle.lines.specs.FormLaws as L
 use Rattle.lines.proofs.read.contains.Goals as goal
 
-pub returns-then-end_here : goal.returns-then-end_here
-unfolding F.FormAt F.contains_of
-returns-then-end_here c = λ d t s h.
-    let a = c.number64-time.ensures.is d t _ h in
-    let b = c.id-x.ensures.is d t _ a.1 in
-    F.is_whole _ _ _ _ (W.stands-end c.args.line.now _ false d t _ c.end_here.ensures _ b.1) c.if-end_here.true (λ i. Contains (a.0 i) (b.0 i))
+pub returns-in_err-time : goal.returns-in_err-time
+unfolding F.FormAt F.contains_of K.NoField K.IfEnds
+returns-in_err-time c = λ d t s h.
+    L.none-unread _ c.from_residual.ensures ∙ L.unread-gone _ _ (W.then-gone K.ids _ (c.in_err-time.ensures d t _ h))
+
+pub returns-in_err-id : goal.returns-in_err-id
+unfolding F.FormAt F.contains_of K.NoField K.IfEnds
+returns-in_err-id c = λ d t s h.
+    let x0 = c.in_ok-time.ensures.is d t _ h in
+    L.none-unread _ c.from_residual-in_err-id.ensures ∙ L.unread-gone _ _ (c.in_err-id.ensures d t _ x0.1)
 
 pub returns : goal.returns
-unfolding F.FormAt F.contains_of
+unfolding F.FormAt F.contains_of K.NoField K.IfEnds
 returns c = λ d t s h.
-    let a = c.number64-time.ensures.is d t _ h in
-    let b = c.id-x.ensures.is d t _ a.1 in
-    F.is-not _ _ _ (W.stands-end c.args.line.now _ false d t _ c.end_here.ensures _ b.1) c.if-end_here.false
+    let x0 = c.in_ok-time.ensures.is d t _ h in
+    let x1 = c.in_ok-id.ensures.is d t _ x0.1 in
+    L.whole-as _ _ _ _ (L.or-unread _ _ _ (c.if_ends.ensures d t _ x1.1)) (λ i. V.Contains (x0.0 i) (x1.0 i))

@@ -1,22 +1,38 @@
 -- `read::histogram` meets its contract: field by field, then the end.
-use mathlib.Core.Bool.{false}
+use Rattle.std.proofs.Common.{sym, ◌∙◌}
+use Rattle.lines.specs.declared.read.Form.TheVariants as V
+use Rattle.lines.specs.declared.items.Records.TheVariants as R
+use Rattle.lines.specs.Fields as K
+use Rattle.lines.specs.Items as I
+use Rattle.lines.specs.Blocks as B
 use Rattle.lines.specs.FieldLaws as W
+use Rattle.lines.specs.BlockLaws as C
 use Rattle.lines.specs.Forms as F
-use Rattle.lines.specs.declared.read.Form.TheVariants.{Histogram}
+use Rattle.lines.specs.FormLaws as L
 use Rattle.lines.proofs.read.histogram.Goals as goal
 
-pub returns-then-end_here : goal.returns-then-end_here
-unfolding F.FormAt F.histogram_of
-returns-then-end_here c = λ d t s h.
-    let a = c.number64-time.ensures.is d t _ h in
-    let b = c.number32-bins.ensures.is d t _ a.1 in
-    let j = c.number64-longest.ensures.is d t _ b.1 in
-    F.is_whole _ _ _ _ (W.stands-end c.args.line.now _ false d t _ c.end_here.ensures _ j.1) c.if-end_here.true (λ i. Histogram (a.0 i) (b.0 i) (j.0 i))
+pub returns-in_err-time : goal.returns-in_err-time
+unfolding F.FormAt F.histogram_of K.NoField K.IfEnds
+returns-in_err-time c = λ d t s h.
+    L.none-unread _ c.from_residual.ensures ∙ L.unread-gone _ _ (W.then-gone K.number64 _ (W.then-gone K.number32 _ (c.in_err-time.ensures d t _ h)))
+
+pub returns-in_err-bins : goal.returns-in_err-bins
+unfolding F.FormAt F.histogram_of K.NoField K.IfEnds
+returns-in_err-bins c = λ d t s h.
+    let x0 = c.in_ok-time.ensures.is d t _ h in
+    L.none-unread _ c.from_residual-in_err-bins.ensures ∙ L.unread-gone _ _ (W.then-gone K.number64 _ (c.in_err-bins.ensures d t _ x0.1))
+
+pub returns-in_err-longest : goal.returns-in_err-longest
+unfolding F.FormAt F.histogram_of K.NoField K.IfEnds
+returns-in_err-longest c = λ d t s h.
+    let x0 = c.in_ok-time.ensures.is d t _ h in
+    let x1 = c.in_ok-bins.ensures.is d t _ x0.1 in
+    L.none-unread _ c.from_residual-in_err-longest.ensures ∙ L.unread-gone _ _ (c.in_err-longest.ensures d t _ x1.1)
 
 pub returns : goal.returns
-unfolding F.FormAt F.histogram_of
+unfolding F.FormAt F.histogram_of K.NoField K.IfEnds
 returns c = λ d t s h.
-    let a = c.number64-time.ensures.is d t _ h in
-    let b = c.number32-bins.ensures.is d t _ a.1 in
-    let j = c.number64-longest.ensures.is d t _ b.1 in
-    F.is-not _ _ _ (W.stands-end c.args.line.now _ false d t _ c.end_here.ensures _ j.1) c.if-end_here.false
+    let x0 = c.in_ok-time.ensures.is d t _ h in
+    let x1 = c.in_ok-bins.ensures.is d t _ x0.1 in
+    let x2 = c.in_ok-longest.ensures.is d t _ x1.1 in
+    L.whole-as _ _ _ _ (L.or-unread _ _ _ (c.if_ends.ensures d t _ x2.1)) (λ i. V.Histogram (x0.0 i) (x1.0 i) (x2.0 i))

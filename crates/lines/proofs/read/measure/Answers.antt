@@ -1,5 +1,5 @@
 -- `read::measure` meets its contract: the first word decides.
-use mathlib.Core.Path.{refl, sym, ◌∙◌}
+use Rattle.std.proofs.Common.{refl, sym, ◌∙◌}
 use Rattle.lines.specs.Forms as F
 use Rattle.lines.specs.FormLaws as L
 use Rattle.lines.proofs.read.measure.Goals as goal
@@ -26,4 +26,4 @@ returns-then-same_word-5 c = λ d t s h. L.next_of _ _ _ _ (sym c.same_word.ensu
 
 pub returns : goal.returns
 unfolding F.FormAt F.measure_of
-returns c = λ d t s h. L.next_of _ _ _ _ (sym c.same_word.ensures ∙ c.if-same_word.false) (L.next_of _ _ _ _ (sym c.same_word-2.ensures ∙ c.if-same_word-2.false) (L.next_of _ _ _ _ (sym c.same_word-3.ensures ∙ c.if-same_word-3.false) (L.next_of _ _ _ _ (sym c.same_word-4.ensures ∙ c.if-same_word-4.false) (L.next_of _ _ _ _ (sym c.same_word-5.ensures ∙ c.if-same_word-5.false) refl))))
+returns c = λ d t s h. L.next_of _ _ _ _ (sym c.same_word.ensures ∙ c.if-same_word.false) (L.next_of _ _ _ _ (sym c.same_word-2.ensures ∙ c.if-same_word-2.false) (L.next_of _ _ _ _ (sym c.same_word-3.ensures ∙ c.if-same_word-3.false) (L.next_of _ _ _ _ (sym c.same_word-4.ensures ∙ c.if-same_word-4.false) (L.next_of _ _ _ _ (sym c.same_word-5.ensures ∙ c.if-same_word-5.false) (refl)))))

@@ -1,14 +1,16 @@
--- `read::plain` meets its contract: the list ends at once.
-use mathlib.Core.Path.{refl}
-use mathlib.Core.Bool.{false}
+-- `read::plain` meets its contract: the list ends.
+use Rattle.std.proofs.Common.{sym, ◌∙◌}
+use Rattle.lines.specs.declared.read.Form.TheVariants as V
+use Rattle.lines.specs.declared.items.Records.TheVariants as R
+use Rattle.lines.specs.Fields as K
+use Rattle.lines.specs.Items as I
+use Rattle.lines.specs.Blocks as B
 use Rattle.lines.specs.FieldLaws as W
+use Rattle.lines.specs.BlockLaws as C
 use Rattle.lines.specs.Forms as F
+use Rattle.lines.specs.FormLaws as L
 use Rattle.lines.proofs.read.plain.Goals as goal
 
-pub returns-then-end_here : goal.returns-then-end_here
-unfolding F.FormAt F.plain_of
-returns-then-end_here c = λ d t s h. F.is_whole _ _ _ _ (W.stands-end c.args.line.now _ false d t _ c.end_here.ensures _ h) c.if-end_here.true refl
-
 pub returns : goal.returns
-unfolding F.FormAt F.plain_of
-returns c = λ d t s h. F.is-not _ _ _ (W.stands-end c.args.line.now _ false d t _ c.end_here.ensures _ h) c.if-end_here.false
+unfolding F.FormAt F.plain_of K.IfEnds
+returns c = λ d t s h. L.or-unread _ _ _ (c.if_ends.ensures d t _ h)

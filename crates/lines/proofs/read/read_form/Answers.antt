@@ -1,26 +1,8 @@
--- `read::read_form` meets its contract: a line is a form or none (`Opened`), and the form's first member is a word or none.
-use mathlib.Core.Bool.{true}
-use mathlib.Core.Path.{refl}
-use Rattle.lines.specs.FieldLaws as W
-use Rattle.lines.specs.FormLaws as L
+-- `read::read_form` meets its contract: what is no form is unread.
+use Rattle.std.proofs.Common.{sym, subst}
+use Rattle.lines.specs.declared.read.Form.{Form}
+use Rattle.lines.specs.Forms as F
 use Rattle.lines.proofs.read.read_form.Goals as goal
 
-pub returns-in_default : goal.returns-in_default
-returns-in_default c =
-    L.read-not c.args.line.now c.args.first.now _ c.args.second.now _ _ _ c.read_line.ensures c.in_default.is refl
-
-pub word_here-requires : goal.word_here-requires
-word_here-requires c = L.opened_in _ _ _ c.read_line.ensures c.in-At.is
-
-pub returns-in_default-word_here : goal.returns-in_default-word_here
-returns-in_default-word_here c =
-    L.read-no-word c.args.line.now c.args.first.now _ c.args.second.now _ _ _ c.read_line.ensures _ c.in-At.is (W.at_none c.args.line.now _ true _ c.word_here.ensures c.in_default-word_here.is) refl
-
-pub worded-requires : goal.worded-requires
-worded-requires c =
-    let w = W.word_in c.args.line.now _ true _ _ (W.at-word c.args.line.now _ true _ c.word_here.ensures _ _ c.in-Is.is) in
-    (w.1, w.2)
-
 pub returns : goal.returns
-returns c =
-    L.read_word c.args.line.now c.args.first.now _ c.args.second.now _ _ _ c.read_line.ensures _ c.in-At.is _ _ (W.at-word c.args.line.now _ true _ c.word_here.ensures _ _ c.in-Is.is) c.worded.ensures
+returns c = subst (λ (r : Form). F.ReadAt c.args.line.now c.args.first.now c.form_of.new.first c.args.second.now c.form_of.new.second r) (sym c.unwrap_or.ensures) c.form_of.ensures

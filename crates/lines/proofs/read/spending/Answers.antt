@@ -1,18 +1,23 @@
 -- `read::spending` meets its contract: field by field, then the end.
-use mathlib.Core.Bool.{false}
+use Rattle.std.proofs.Common.{sym, ◌∙◌}
+use Rattle.lines.specs.declared.read.Form.TheVariants as V
+use Rattle.lines.specs.declared.items.Records.TheVariants as R
+use Rattle.lines.specs.Fields as K
+use Rattle.lines.specs.Items as I
+use Rattle.lines.specs.Blocks as B
 use Rattle.lines.specs.FieldLaws as W
+use Rattle.lines.specs.BlockLaws as C
 use Rattle.lines.specs.Forms as F
-use Rattle.lines.specs.declared.read.Form.TheVariants.{Spending}
+use Rattle.lines.specs.FormLaws as L
 use Rattle.lines.proofs.read.spending.Goals as goal
 
-pub returns-then-end_here : goal.returns-then-end_here
-unfolding F.FormAt F.spending_of
-returns-then-end_here c = λ d t s h.
-    let a = c.id-x.ensures.is d t _ h in
-    F.is_whole _ _ _ _ (W.stands-end c.args.line.now _ false d t _ c.end_here.ensures _ a.1) c.if-end_here.true (λ i. Spending (a.0 i))
+pub returns-in_err-id : goal.returns-in_err-id
+unfolding F.FormAt F.spending_of K.NoField K.IfEnds
+returns-in_err-id c = λ d t s h.
+    L.none-unread _ c.from_residual.ensures ∙ L.unread-gone _ _ (c.in_err-id.ensures d t _ h)
 
 pub returns : goal.returns
-unfolding F.FormAt F.spending_of
+unfolding F.FormAt F.spending_of K.NoField K.IfEnds
 returns c = λ d t s h.
-    let a = c.id-x.ensures.is d t _ h in
-    F.is-not _ _ _ (W.stands-end c.args.line.now _ false d t _ c.end_here.ensures _ a.1) c.if-end_here.false
+    let x0 = c.in_ok-id.ensures.is d t _ h in
+    L.whole-as _ _ _ _ (L.or-unread _ _ _ (c.if_ends.ensures d t _ x0.1)) (λ i. V.Spending (x0.0 i))

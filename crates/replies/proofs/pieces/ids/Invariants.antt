@@ -9,6 +9,3 @@ use Rattle.replies.proofs.pieces.ids.Given as goal
 
 abbrev pub invariant-loop-i : goal.invariant-loop-i
 invariant-loop-i l = (l.k ≤ l.at + 65 * l.i) × (length l.out ≡ length l.initial.out) × Printing (flat spaced (drop l.from (ids_to 4 l.list l.n))) (flat spaced (drop l.i (ids_to 4 l.list l.n))) l.at l.initial.out l.out l.k
-
-abbrev pub decreases-loop-i : goal.decreases-loop-i
-decreases-loop-i l = l.n - l.i

@@ -13,6 +13,5 @@ weights-requires c =
 pub returns : goal.returns
 returns c =
     let s = c in
-    let at-load-id = c.load_id in
     let at-id = c.id-k in
-    prints-row s.args.words.now s.args.i at-load-id.result at-load-id.ensures (prints-then (omega (arith, id-ends (32 ∷ 40 ∷ []) _ at-id.ensures, s.requires.1)) at-id.ensures c.weights.ensures)
+    prints-row s.args.words.now s.args.i c.get_id.result c.get_id.ensures.number (prints-then (omega (arith, id-ends (32 ∷ 40 ∷ []) _ at-id.ensures, s.requires.1)) at-id.ensures c.weights.ensures)

@@ -9,6 +9,3 @@ use Rattle.replies.proofs.pieces.rows.Given as goal
 
 abbrev pub invariant-loop-i : goal.invariant-loop-i
 invariant-loop-i l = (l.k ≤ l.at + 109 * l.i) × (length l.out ≡ length l.initial.out) × Printing (flat row_text (rows_of l.words l.n)) (flat row_text (drop l.i (rows_of l.words l.n))) l.at l.initial.out l.out l.k
-
-abbrev pub decreases-loop-i : goal.decreases-loop-i
-decreases-loop-i l = l.n - l.i
