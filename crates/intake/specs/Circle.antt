@@ -1,11 +1,9 @@
 -- What the search of a turn finds, on lists: the first of the circle's lines that is not empty.
-use Rattle.std.specs.Prelude.{ℕ, zero, suc, ◌+◌, ◌-◌, ◌%◌, ◌≤◌, ◌<◌, ◌≡◌, refl, Bool, true, false, List, [], ◌∷◌, ltb, length, get_or}
+use Rattle.std.specs.Prelude.{ℕ, zero, suc, ◌+◌, ◌-◌, ◌%◌, ◌≤◌, ◌<◌, ◌≡◌, refl, Bool, true, false, List, [], ◌∷◌, ltb, length, get_or, Some, None}
 use Rattle.std.proofs.Common.{sym, ap, ◌∙◌, arith, add-zero, le_of_suc-le-suc, ltb-true, ltb-false}
 use Rattle.std.proofs.Math.Nat.{mod-add-mod}
 use Rattle.words.specs.Lists.{pick}
 use Rattle.words.specs.Rows.{tab, tab-ext}
-use Rattle.intake.specs.declared.lines.Next.{Next}
-use Rattle.intake.specs.declared.lines.Next.TheVariants.{Line, NoLine}
 use Rattle.intake.specs.Queue.{lines_from, circle, first_held}
 
 -- the circle, line by line
@@ -29,12 +27,12 @@ record Hit (ls : List (List ℕ)) (f : ℕ → ℕ) (n i : ℕ) : Type 0 where
   before : (k : ℕ) → k < at → length (get_or ls (f k) []) ≡ 0
 
 module _ (ls : List (List ℕ)) where
-  hit : (f : ℕ → ℕ) (n i : ℕ) → first_held ls (tab f n) ≡ Line i → Hit ls f n i
+  hit : (f : ℕ → ℕ) (n i : ℕ) → first_held ls (tab f n) ≡ Some i → Hit ls f n i
   hit f zero i e = let z : ◌≡◌ {A = ℕ} 0 1 = cc in absurd (omega arith)
   hit f (suc n) i e = go (ltb 0 (length (get_or ls (f zero) []))) refl e (hit (λ k. f (suc k)) n i)
     where
-      go : (t : Bool) → ltb 0 (length (get_or ls (f zero) [])) ≡ t → pick t (Line (f zero)) (first_held ls (tab (λ k. f (suc k)) n)) ≡ Line i
-          → (first_held ls (tab (λ k. f (suc k)) n) ≡ Line i → Hit ls (λ k. f (suc k)) n i) → Hit ls f (suc n) i
+      go : (t : Bool) → ltb 0 (length (get_or ls (f zero) [])) ≡ t → pick t (Some (f zero)) (first_held ls (tab (λ k. f (suc k)) n)) ≡ Some i
+          → (first_held ls (tab (λ k. f (suc k)) n) ≡ Some i → Hit ls (λ k. f (suc k)) n i) → Hit ls f (suc n) i
       go true t e r =
           let q : f zero ≡ i = cc in
           record { at = 0; within = omega arith; is = sym q; some = rw (← q) (ltb-true 0 (length (get_or ls (f zero) [])) t); before = λ k h. absurd (omega arith) }
@@ -49,12 +47,12 @@ module _ (ls : List (List ℕ)) where
           earlier b zero h = none
           earlier b (suc k) h = b k (le_of_suc-le-suc h)
 
-  missed : (f : ℕ → ℕ) (n : ℕ) → first_held ls (tab f n) ≡ NoLine → (k : ℕ) → k < n → length (get_or ls (f k) []) ≡ 0
+  missed : (f : ℕ → ℕ) (n : ℕ) → first_held ls (tab f n) ≡ None → (k : ℕ) → k < n → length (get_or ls (f k) []) ≡ 0
   missed f zero e = λ k h. absurd (omega arith)
   missed f (suc n) e = go (ltb 0 (length (get_or ls (f zero) []))) refl e (missed (λ k. f (suc k)) n)
     where
-      go : (t : Bool) → ltb 0 (length (get_or ls (f zero) [])) ≡ t → pick t (Line (f zero)) (first_held ls (tab (λ k. f (suc k)) n)) ≡ NoLine
-          → (first_held ls (tab (λ k. f (suc k)) n) ≡ NoLine → (k : ℕ) → k < n → length (get_or ls (f (suc k)) []) ≡ 0)
+      go : (t : Bool) → ltb 0 (length (get_or ls (f zero) [])) ≡ t → pick t (Some (f zero)) (first_held ls (tab (λ k. f (suc k)) n)) ≡ None
+          → (first_held ls (tab (λ k. f (suc k)) n) ≡ None → (k : ℕ) → k < n → length (get_or ls (f (suc k)) []) ≡ 0)
           → (k : ℕ) → k < suc n → length (get_or ls (f k) []) ≡ 0
       go true t e r k h = let z : ◌≡◌ {A = ℕ} 0 1 = cc in absurd (omega arith)
       go false t e r zero h = omega (arith, ltb-false 0 (length (get_or ls (f zero) [])) t)
@@ -75,7 +73,7 @@ pub record NextIs (ls : List (List ℕ)) (s i : ℕ) : Type 0 where
   pub nearest : (k : ℕ) → k < 256 → 0 < length (get_or ls k []) → between s i ≤ between s k
 
 module _ (ls : List (List ℕ)) (s : ℕ) (sb : s < 256) where
-  pub next-is : (i : ℕ) → first_held ls (circle s) ≡ Line i → NextIs ls s i
+  pub next-is : (i : ℕ) → first_held ls (circle s) ≡ Some i → NextIs ls s i
   next-is i e = record { below = omega (arith, y.is); some = y.some; nearest = λ k kb some. go k kb some (ltb (between s k) y.at) refl }
     where
       y : Hit ls (λ j. (s + 1 + j) % 256) 256 i
@@ -90,5 +88,5 @@ module _ (ls : List (List ℕ)) (s : ℕ) (sb : s < 256) where
           absurd (omega arith)
       go k kb some false t = omega (arith, at-is, ltb-false (between s k) y.at t)
 
-  pub none-held : first_held ls (circle s) ≡ NoLine → (k : ℕ) → k < 256 → length (get_or ls k []) ≡ 0
+  pub none-held : first_held ls (circle s) ≡ None → (k : ℕ) → k < 256 → length (get_or ls k []) ≡ 0
   none-held e k kb = rw (reached s k sb kb) at (missed ls (λ j. (s + 1 + j) % 256) 256 (rw circle-is at e) (between s k) (omega arith))

@@ -1,63 +1,60 @@
 -- That the steps of a call keep its promise, case by case. The calls' proofs cite these.
-use Rattle.std.specs.Prelude.{ℕ, zero, suc, ◌+◌, ◌*◌, ◌%◌, ◌≤◌, ◌<◌, ◌≡◌, refl, Bool, true, false, List, [], ◌∷◌, ◌++◌, ltb, leb, length, get_or, drop, set}
-use Rattle.std.proofs.Common.{sym, ap, ◌∙◌, ne_of_lt, arith, length-set, get_or-set_same, get_or-set_other, drop-set-lt, ltb-true, ltb-false, lt-ltb, le-ltb, le-leb}
-use Rattle.std.proofs.lemmas.List.{set-get_or}
+use Rattle.std.specs.Prelude.{ℕ, ◌+◌, ◌*◌, ◌%◌, ◌≤◌, ◌<◌, ◌≡◌, refl, Bool, true, false, List, [], ◌∷◌, ◌++◌, ltb, length, get_or, drop, set, Option, Some, None, Ok, Err}
+use Rattle.std.proofs.Common.{sym, ap, ◌∙◌, arith, length-set, get_or-set_same, get_or-set_other, drop-set-lt, ltb-true, ltb-false, lt-ltb, le-ltb, le-leb}
 use Rattle.std.proofs.lemmas.Bool.{lt-leb}
-use Rattle.words.specs.Lists.{pick, yes, no}
-use Rattle.words.specs.Rows.{tab, tab-ext}
-use Rattle.intake.specs.declared.lines.Next.{Next}
-use Rattle.intake.specs.declared.lines.Next.TheVariants.{Line, NoLine}
-use Rattle.intake.specs.declared.calls.StartOutcome.{StartOutcome}
-use Rattle.intake.specs.declared.calls.StartOutcome.TheVariants.{Ready, NotStarted}
-use Rattle.intake.specs.declared.calls.PutOutcome.{PutOutcome}
-use Rattle.intake.specs.declared.calls.PutOutcome.TheVariants.{Stored, Refused}
-use Rattle.intake.specs.declared.calls.TurnOutcome.{TurnOutcome}
-use Rattle.intake.specs.declared.calls.TurnOutcome.TheVariants.{Served, Nothing}
-use Rattle.intake.specs.Queue.{Queue, queue, empty, circle, first_held, put, turn, serve, after_put, after_turn}
-use Rattle.intake.specs.Words.{Room, InQueue, head_of, tail_of, held_of, line_of, lines_of, last_of, queue_of, Appended, Taken}
+use Rattle.words.specs.Lists.{yes, no}
+use Rattle.words.specs.Rows.{tab-ext}
+use Rattle.intake.specs.declared.calls.Refusal.TheVariants.{NoRoom}
+use Rattle.intake.specs.declared.calls.Served.{Served}
+use Rattle.intake.specs.Queue.{Said, served, queue, empty, circle, first_held, serve, after_put, after_turn}
+use Rattle.intake.specs.Words.{Room, held_of, line_of, lines_of, last_of, queue_of, Outside, Cleared, Appended, Taken}
 use Rattle.intake.specs.Laws.{lines_at, held_at, length-line, line-apart}
 use Rattle.intake.specs.Circle.{NextIs, next-is}
-use Rattle.intake.specs.Promises.{Outside, StartPromise, PutPromise, TurnPromise, Cleared, last_after, Able, Gave, Given}
+use Rattle.intake.specs.Promises.{StartPromise, PutPromise, TurnPromise}
 
 as_before : (l : List ℕ) → Outside l l
 as_before l = record { size = refl; rest = refl }
 
+-- what a promise says of the words that are left, it says of equal ones
+module _ {l m n : List ℕ} (e : n ≡ m) where
+  pub start-at : {r : Said} → StartPromise l m r → StartPromise l n r
+  start-at p = rw e p
+
+  pub put-at : {i x : ℕ} {r : Said} → PutPromise l i x m r → PutPromise l i x n r
+  put-at p = rw e p
+
+  pub turn-at : {r : Option Served} → TurnPromise l m r → TurnPromise l n r
+  turn-at p = rw e p
+
 -- ---- put
 
-module _ (l : List ℕ) (i x : ℕ) where
-  pub put-short : length l < 4609 → PutPromise l i x l (Refused 32)
-  put-short h = record { short = λ _. refl; puts = λ room. absurd (omega arith); refused = λ _ _. refl; outside = as_before l }
+module _ (l : List ℕ) (i x : ℕ) (room : Room l) where
+  pub put-high : 255 < i → PutPromise l i x l (Err NoRoom)
+  put-high h = record { short = λ _. refl; puts = λ _. sym (yes _ _ _ (yes _ _ _ (lt-ltb 255 i h))); refused = λ _ _. refl; outside = as_before l }
 
-  module _ (room : Room l) where
-    pub put-high : 255 < i → PutPromise l i x l (Refused 32)
-    put-high h = record { short = λ _. refl; puts = λ _. sym (yes _ _ _ (yes _ _ _ (lt-ltb 255 i h))); refused = λ _ _. refl; outside = as_before l }
+  pub put_full : i ≤ 255 → 16 ≤ held_of l i → PutPromise l i x l (Err NoRoom)
+  put_full b h =
+      let full : 16 ≤ length (get_or (lines_of l) i []) = omega (arith, held_at l i (omega arith)) in
+      record {
+        short = λ _. refl;
+        puts = λ _. sym (yes _ _ _ (no _ _ _ (le-ltb 255 i b) ∙ le-leb 16 (length (get_or (lines_of l) i [])) full));
+        refused = λ _ _. refl;
+        outside = as_before l;
+      }
 
-    pub put_full : i ≤ 255 → 16 ≤ held_of l i → PutPromise l i x l (Refused 32)
-    put_full b h =
-        let full : 16 ≤ length (get_or (lines_of l) i []) = omega (arith, held_at l i (omega arith)) in
-        record {
-          short = λ _. refl;
-          puts = λ _. sym (yes _ _ _ (no _ _ _ (le-ltb 255 i b) ∙ le-leb 16 (length (get_or (lines_of l) i [])) full));
-          refused = λ _ _. refl;
-          outside = as_before l;
-        }
-
-    pub put-stored : (m : List ℕ) → i ≤ 255 → held_of l i < 16 → Appended l i x m → PutPromise l i x m Stored
-    put-stored m b h a =
-        let few : length (get_or (lines_of l) i []) < 16 = omega (arith, held_at l i (omega arith)) in
-        record {
-          short = λ s. absurd (omega arith);
-          puts = λ _. (λ k. after_put (queue (a.lines k) (a.last k)) Stored)
-              ∙ (λ k. after_put (queue (set (lines_of l) i (sym (lines_at l i (omega arith)) k ++ (x ∷ []))) (last_of l)) Stored)
-              ∙ sym (no _ _ _ (no _ _ _ (le-ltb 255 i b) ∙ lt-leb 16 (length (get_or (lines_of l) i [])) few));
-          refused = λ code e. let z : ◌≡◌ {A = ℕ} 0 1 = cc in absurd (omega arith);
-          outside = record { size = a.size; rest = a.rest };
-        }
+  pub put-stored : (m : List ℕ) → i ≤ 255 → held_of l i < 16 → Appended l i x m → PutPromise l i x m (Ok tt)
+  put-stored m b h a =
+      let few : length (get_or (lines_of l) i []) < 16 = omega (arith, held_at l i (omega arith)) in
+      record {
+        short = λ s. absurd (omega arith);
+        puts = λ _. (λ k. after_put (queue (a.lines k) (a.last k)) (Ok tt))
+            ∙ (λ k. after_put (queue (set (lines_of l) i (sym (lines_at l i (omega arith)) k ++ (x ∷ []))) (last_of l)) (Ok tt))
+            ∙ sym (no _ _ _ (no _ _ _ (le-ltb 255 i b) ∙ lt-leb 16 (length (get_or (lines_of l) i [])) few));
+        refused = λ code e. let z : ◌≡◌ {A = ℕ} 0 1 = cc in absurd (omega arith);
+        outside = record { size = a.size; rest = a.rest };
+      }
 
 -- ---- turn
-
-pub turn-short : (l : List ℕ) → length l < 4609 → TurnPromise l l Nothing
-turn-short l h = record { short = λ _. refl; turns = λ room. absurd (omega arith); nothing = λ _. refl; outside = as_before l }
 
 -- the word for the line served last is no line's
 module _ (l : List ℕ) (v : ℕ) (room : Room l) where
@@ -74,62 +71,40 @@ module _ (l : List ℕ) (v : ℕ) (room : Room l) where
   new-last : last_of (set l 4608 v) ≡ v % 256
   new-last = ap (λ (w : ℕ). w % 256) (get_or-set_same l 4608 v 0 room)
 
-module _ (l : List ℕ) (room : Room l) where
-  -- what the search found can be served
-  pub able : (n : Next) (v : ℕ) → n ≡ first_held (lines_of l) (circle (last_of l)) → Able (set l 4608 v) n
-  able (Line i) v e =
-      let y = next-is (lines_of l) (last_of l) (omega arith) i (sym e) in
-      let b : i < 256 = y.below in
-      (record { room = rw length-set room; below = b }, omega (arith, same-held l v room i b, held_at l i b, y.some))
-  able NoLine v e = rw length-set room
+pub turned-none : (l : List ℕ) → Room l → None ≡ first_held (lines_of l) (circle (last_of l)) → TurnPromise l l None
+turned-none l room e = record { short = λ _. refl; turns = λ _. ap (serve (queue_of l)) e; nothing = λ _. refl; outside = as_before l }
 
-  pub turned : (n : Next) (m : List ℕ) (r : TurnOutcome) → n ≡ first_held (lines_of l) (circle (last_of l)) → Given (set l 4608 (last_after n (get_or l 4608 0))) n m r → TurnPromise l m r
-  turned (Line i) m r e g =
-      let y = next-is (lines_of l) (last_of l) (omega arith) i (sym e) in
-      let b : i < 256 = y.below in
-      let t = g.taken in
+module _ (l : List ℕ) (room : Room l) (i : ℕ) (e : Some i ≡ first_held (lines_of l) (circle (last_of l))) where
+  next : NextIs (lines_of l) (last_of l) i
+  next = next-is (lines_of l) (last_of l) (omega arith) i (sym e)
+
+  -- the line that the search found holds a handle
+  pub able : 0 < held_of (set l 4608 i) i
+  able = omega (arith, same-held l i room i next.below, held_at l i next.below, next.some)
+
+  pub turned : (x : ℕ) (m : List ℕ) → Taken (set l 4608 i) i x m → TurnPromise l m (served i x)
+  turned x m t =
+      let b : i < 256 = next.below in
       let own : line_of (set l 4608 i) i ≡ get_or (lines_of l) i [] = same_line l i room i b ∙ sym (lines_at l i b) in
-      let x : g.handle ≡ get_or (get_or (lines_of l) i []) 0 0 = t.handle ∙ ap (λ (z : List ℕ). get_or z 0 0) own in
+      let handle : x ≡ get_or (get_or (lines_of l) i []) 0 0 = t.handle ∙ ap (λ (z : List ℕ). get_or z 0 0) own in
       let last : last_of m ≡ i = t.last ∙ new-last l i room ∙ omega arith in
       record {
         short = λ s. absurd (omega arith);
-        turns = λ _. (λ k. after_turn (queue (t.lines k) (last k)) (g.answer k))
-            ∙ (λ k. after_turn (queue (set (same_lines l i room k) i (drop 1 (own k))) i) (Served i (x k)))
+        turns = λ _. (λ k. after_turn (queue (t.lines k) (last k)) (served i x))
+            ∙ (λ k. after_turn (queue (set (same_lines l i room k) i (drop 1 (own k))) i) (served i (handle k)))
             ∙ ap (serve (queue_of l)) e;
-        nothing = λ z. let q : ◌≡◌ {A = ℕ} 0 1 = cc g.answer in absurd (omega arith);
+        nothing = λ z. let q : ◌≡◌ {A = ℕ} 0 1 = cc z in absurd (omega arith);
         outside = record { size = t.size ∙ length-set l 4608 i; rest = t.rest ∙ drop-set-lt 4609 l 4608 i (omega arith) };
       }
-  turned NoLine m r e g =
-      let same : m ≡ l = g.0 ∙ set-get_or l 4608 0 in
-      record {
-        short = λ s. absurd (omega arith);
-        turns = λ _. (λ k. after_turn (queue_of (same k)) (g.1 k)) ∙ ap (serve (queue_of l)) e;
-        nothing = λ _. same;
-        outside = rw same (as_before l);
-      }
-
-  pub turned-at : (n : Next) (m : List ℕ) (r : TurnOutcome) (v : ℕ) → n ≡ first_held (lines_of l) (circle (last_of l)) → v ≡ last_after n (get_or l 4608 0) → Given (set l 4608 v) n m r → TurnPromise l m r
-  turned-at n m r v e w g = turned n m r e (rw w at g)
 
 -- ---- start
-
-pub start-short : (l : List ℕ) → length l < 4609 → StartPromise l l (NotStarted 1)
-start-short l h =
-    record {
-      short = λ _. refl;
-      enough = λ room. absurd (omega arith);
-      ready = λ e. let z : ◌≡◌ {A = ℕ} 0 1 = cc in absurd (omega arith);
-      zeroes = λ e. let z : ◌≡◌ {A = ℕ} 0 1 = cc in absurd (omega arith);
-      refused = λ _ _. refl;
-      outside = as_before l;
-    }
 
 -- a line with head and tail 0 is empty
 cleared-line : (l : List ℕ) (i : ℕ) → get_or l (i * 18) 0 ≡ 0 → get_or l (i * 18 + 1) 0 ≡ 0 → line_of l i ≡ []
 unfolding line_of
 cleared-line l i h t = rw (h, t)
 
-pub started : (l m : List ℕ) → Room l → Cleared l m 256 → StartPromise l (set m 4608 255) Ready
+pub started : (l m : List ℕ) → Room l → Cleared l m 256 → StartPromise l (set m 4608 255) (Ok tt)
 unfolding empty lines_of
 started l m room c =
     let size : length m ≡ length l = c.outside.size in
@@ -144,9 +119,6 @@ started l m room c =
       refused = λ code e. let z : ◌≡◌ {A = ℕ} 0 1 = cc in absurd (omega arith);
       outside = record { size = length-set m 4608 255 ∙ size; rest = drop-set-lt 4609 m 4608 255 (omega arith) ∙ c.outside.rest };
     }
-
-pub cleared-none : (l : List ℕ) → Cleared l l 0
-cleared-none l = record { zeroes = λ i b. absurd (omega arith); outside = as_before l }
 
 -- one line more, its head and then its tail
 pub cleared_more : (l m : List ℕ) (i : ℕ) → Room l → i < 256 → Cleared l m i → Cleared l (set (set m (i * 18) 0) (i * 18 + 1) 0) (i + 1)
@@ -178,15 +150,3 @@ cleared_more l m i room b c =
           get_or-set_other o (i * 18 + 1) (i * 18) 0 0 (λ e. omega (arith, e)) ∙ get_or-set_same m (i * 18) 0 0 (omega arith),
           get_or-set_same o (i * 18 + 1) 0 0 (omega arith),
         )
-
--- ---- serve
-
-module _ (l : List ℕ) (n : Next) where
-  pub able-line : (i : ℕ) → n ≡ Line i → Able l n → InQueue l i × (0 < held_of l i)
-  able-line i e a = rw e at a
-
-  pub given-line : (i x : ℕ) (m : List ℕ) → n ≡ Line i → Taken l i x m → Given l n m (Served i x)
-  given-line i x m e t = rw e (record { handle = x; answer = refl; taken = t })
-
-  pub given-none : n ≡ NoLine → Given l n l Nothing
-  given-none e = rw e (refl, refl)

@@ -1,17 +1,16 @@
 -- Laws of the words: what a store to a line's words makes of the lines. The wrap is in the first group, over plain numbers.
-use Prim.Native.Nat.{ℕ, zero, suc, ◌+◌, ◌-◌, ◌*◌, ◌%◌, ◌≤◌, ◌<◌, suc-le-suc}
-use Rattle.std.specs.Prelude.{◌≡◌, refl, ◌≢◌, List, [], ◌∷◌, ◌++◌, length, take, drop, set, ltb}
+use Prim.Native.Nat.{ℕ, zero, suc, ◌+◌, ◌-◌, ◌*◌, ◌%◌, ◌<◌, suc-le-suc}
+use Rattle.std.specs.Prelude.{◌≡◌, refl, ◌≢◌, List, [], ◌∷◌, ◌++◌, length, drop, set, ltb, map, find, cond, Bool, true, false, Option, Some}
 use Rattle.std.proofs.Math.Path.{sym, ap}
-use Rattle.std.proofs.Common.{◌∙◌, ne_of_lt, ne_of_gt, add-one, length-set, drop_of_length-le, drop-cons, get_or-set_same, get_or-set_other, drop-set-lt, lt-ltb, le-ltb}
+use Rattle.std.proofs.Common.{◌∙◌, ne_of_lt, ne_of_gt, add-one, length-set, get_or-set_same, get_or-set_other, drop-set-lt}
 use Rattle.std.proofs.Math.Nat.{add-zero}
 use native.Mathlib.Omega.{arith}
 use Rattle.std.proofs.Math.ListN.{get_or}
-use Rattle.words.specs.Lists.{pick, yes, no}
+use Rattle.words.specs.Lists.{pick}
 use Rattle.words.specs.Rows.{tab, length-tab, get_or-tab, tab-ext, tab-add}
-use Rattle.intake.specs.declared.lines.Next.TheVariants.{Line, NoLine}
-use Rattle.intake.specs.Queue.{circle, first_held}
-use Rattle.intake.specs.Circle.{circle-is}
-use Rattle.intake.specs.Words.{Room, InQueue, place, head_of, tail_of, held_of, line_of, lines_of, last_of, Appended, Taken}
+use Rattle.std.specs.List.{range_with_len}
+use Rattle.intake.specs.Queue.{lines_from, circle, first_held}
+use Rattle.intake.specs.Words.{Room, place, head_of, tail_of, held_of, line_of, lines_of, Appended, Taken}
 
 -- ---- counts that wrap at 2^32, of any value
 
@@ -98,11 +97,9 @@ lines_at l i h = get_or-tab (line_of l) 256 i [] h
 abbrev pub appends : List ℕ → ℕ → ℕ → List ℕ
 appends l i x = set (set l (place i (tail_of l i)) x) (i * 18 + 1) ((tail_of l i + 1) % 4294967296)
 
-pub appended : (l : List ℕ) (i x : ℕ) → InQueue l i → held_of l i < 16 → Appended l i x (appends l i x)
+pub appended : (l : List ℕ) (i x : ℕ) → Room l → i < 256 → held_of l i < 16 → Appended l i x (appends l i x)
 unfolding lines_of
-appended l i x q few =
-    let room : 4609 ≤ length l = q.room in
-    let below : i < 256 = q.below in
+appended l i x room below few =
     let p = place i (tail_of l i) in
     let v = (tail_of l i + 1) % 4294967296 in
     let m = set l p x in
@@ -121,19 +118,17 @@ appended l i x q few =
     }
 
 -- so where the code has read the tail t and reckoned the place p and the next tail w
-pub appended-at : (l : List ℕ) (i x t p w : ℕ) → InQueue l i → held_of l i < 16 → t ≡ tail_of l i → p ≡ place i t → w ≡ (t + 1) % 4294967296
+pub appended-at : (l : List ℕ) (i x t p w : ℕ) → Room l → i < 256 → held_of l i < 16 → t ≡ tail_of l i → p ≡ place i t → w ≡ (t + 1) % 4294967296
     → Appended l i x (set (set l p x) (i * 18 + 1) w)
-appended-at l i x t p w q few et ep ew = rw (ew, ep, et) (appended l i x q few)
+appended-at l i x t p w room below few et ep ew = rw (ew, ep, et) (appended l i x room below few)
 
 -- the words after a handle left
 abbrev pub takes : List ℕ → ℕ → List ℕ
 takes l i = set l (i * 18) ((head_of l i + 1) % 4294967296)
 
-pub taken : (l : List ℕ) (i : ℕ) → InQueue l i → 0 < held_of l i → Taken l i (get_or l (place i (head_of l i)) 0) (takes l i)
+pub taken : (l : List ℕ) (i : ℕ) → Room l → i < 256 → 0 < held_of l i → Taken l i (get_or l (place i (head_of l i)) 0) (takes l i)
 unfolding lines_of
-taken l i q some =
-    let room : 4609 ≤ length l = q.room in
-    let below : i < 256 = q.below in
+taken l i room below some =
     let v = (head_of l i + 1) % 4294967296 in
     let own : line_of l i ≡ get_or l (place i (head_of l i)) 0 ∷ line_of (takes l i) i =
     line-less l (takes l i) i some
@@ -148,9 +143,9 @@ taken l i q some =
       rest = drop-set-lt 4609 l (i * 18) v (omega arith);
     }
 
-pub taken_at : (l : List ℕ) (i h p w : ℕ) → InQueue l i → 0 < held_of l i → h ≡ head_of l i → p ≡ place i (head_of l i) → w ≡ (h + 1) % 4294967296
+pub taken_at : (l : List ℕ) (i h p w : ℕ) → Room l → i < 256 → 0 < held_of l i → h ≡ head_of l i → p ≡ place i h → w ≡ (h + 1) % 4294967296
     → Taken l i (get_or l p 0) (set l (i * 18) w)
-taken_at l i h p w q some eh ep ew = rw (ew, ep, eh) (taken l i q some)
+taken_at l i h p w room below some eh ep ew = rw (ew, ep, eh) (taken l i room below some)
 
 -- ---- the search for the next line
 
@@ -161,31 +156,26 @@ length-line l i = length-tab (λ j. get_or l (place i (head_of l i + j)) 0) (hel
 pub held_at : (l : List ℕ) (i : ℕ) → i < 256 → length (get_or (lines_of l) i []) ≡ held_of l i
 held_at l i h = ap length (lines_at l i h) ∙ length-line l i
 
-pub length-circle : (s : ℕ) → length (circle s) ≡ 256
-length-circle s = ap length (circle-is s) ∙ length-tab {A = ℕ} (λ k. (s + 1 + k) % 256) 256
+-- the circle, as the lines that the search goes through
+circle-from : (s a n : ℕ) → lines_from ((s + 1 + a) % 256) n ≡ map (λ j. (s + 1 + j) % 256) (range_with_len a n)
+circle-from s a zero = refl
+circle-from s a (suc n) = λ k. ((s + 1 + a) % 256) ∷ (ap (λ (i : ℕ). lines_from i n) next ∙ circle-from s (a + 1) n) k
+  where
+    next : ((s + 1 + a) % 256 + 1) % 256 ≡ (s + 1 + (a + 1)) % 256
+    next = omega arith
 
-pub circle-at : (s j : ℕ) → j < 256 → get_or (circle s) j 0 ≡ (s + 1 + j) % 256
-circle-at s j h = ap (λ (z : List ℕ). get_or z j 0) (circle-is s) ∙ get_or-tab {A = ℕ} (λ k. (s + 1 + k) % 256) 256 j 0 h
+module _ (l : List ℕ) (s : ℕ) where
+  abbrev search_from : ℕ → ℕ → List ℕ
+  search_from a n = map (λ j. (s + 1 + j) % 256) (range_with_len a n)
 
--- what is left of the search gives what the whole gives
-pub record Searched (l : List ℕ) (s j : ℕ) : Type 0 where
-  pub left : first_held (lines_of l) (circle s) ≡ first_held (lines_of l) (drop j (circle s))
+  finds : (a n : ℕ) → find (λ i. ltb 0 (held_of l i)) (search_from a n) ≡ first_held (lines_of l) (search_from a n)
+  finds a zero = refl
+  finds a (suc n) = rw (held_at l ((s + 1 + a) % 256) (omega arith)) (go (ltb 0 (held_of l ((s + 1 + a) % 256))) (finds (a + 1) n))
+    where
+      go : (t : Bool) {o p : Option ℕ} → o ≡ p → cond t (Some ((s + 1 + a) % 256)) o ≡ pick t (Some ((s + 1 + a) % 256)) p
+      go true e = refl
+      go false e = e
 
-module _ (l : List ℕ) (s j : ℕ) (h : j < 256) where
-  here : drop j (circle s) ≡ ((s + 1 + j) % 256) ∷ drop (j + 1) (circle s)
-  here = drop-cons (circle s) j 0 (omega (arith, length-circle s)) ∙ (λ k. circle-at s j h k ∷ drop (sym (add-one j) k) (circle s))
-
-  step : first_held (lines_of l) (drop j (circle s)) ≡ pick (ltb 0 (held_of l ((s + 1 + j) % 256))) (Line ((s + 1 + j) % 256)) (first_held (lines_of l) (drop (j + 1) (circle s)))
-  step = rw here (rw (held_at l ((s + 1 + j) % 256) (omega arith)))
-
-  pub search-found : Searched l s j → 0 < held_of l ((s + 1 + j) % 256) → Line ((s + 1 + j) % 256) ≡ first_held (lines_of l) (circle s)
-  search-found so some = sym (so.left ∙ step ∙ yes _ _ _ (lt-ltb 0 (held_of l ((s + 1 + j) % 256)) some))
-
-  pub search-on : Searched l s j → held_of l ((s + 1 + j) % 256) ≤ 0 → Searched l s (j + 1)
-  search-on so none = record { left = so.left ∙ step ∙ no _ _ _ (le-ltb 0 (held_of l ((s + 1 + j) % 256)) none) }
-
-pub search-begins : (l : List ℕ) (s : ℕ) → Searched l s 0
-search-begins l s = record { left = refl }
-
-pub search-ends : (l : List ℕ) (s j : ℕ) → Searched l s j → 256 ≤ j → NoLine ≡ first_held (lines_of l) (circle s)
-search-ends l s j so h = sym (so.left ∙ ap (first_held (lines_of l)) (drop_of_length-le (circle s) {i = j} (omega (arith, length-circle s))))
+  pub search-is : find (λ i. ltb 0 (held_of l i)) (search_from 0 256) ≡ first_held (lines_of l) (circle s)
+  unfolding circle
+  search-is = finds 0 256 ∙ ap (first_held (lines_of l)) (sym (circle-from s 0 256) ∙ ap (λ (i : ℕ). lines_from (i % 256) 256) (add-zero (s + 1)))

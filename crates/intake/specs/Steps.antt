@@ -1,16 +1,12 @@
 -- What a call's promise says of the lines one by one: the steps of the theorem.
-use Rattle.std.specs.Prelude.{ℕ, zero, suc, ◌+◌, ◌*◌, ◌%◌, ◌≤◌, ◌<◌, ◌≡◌, refl, Bool, true, false, List, [], ◌∷◌, ◌++◌, eqb, ltb, leb, length, get_or, drop, set}
-use Rattle.std.proofs.Common.{sym, ap, ◌∙◌, arith, get_or-set_same, get_or-set_other, ltb-false, leb-false, eqb-true}
+use Rattle.std.specs.Prelude.{ℕ, ◌<◌, ◌≡◌, refl, Bool, true, false, List, [], ◌∷◌, ◌++◌, eqb, ltb, leb, length, get_or, drop, set, Option, Some, None, Ok, Err}
+use Rattle.std.proofs.Common.{sym, ap, drop-cons, ◌∙◌, arith, get_or-set_same, get_or-set_other, ltb-false, leb-false}
 use Rattle.std.proofs.lemmas.Bool.{eqb-false}
-use Rattle.words.specs.Lists.{pick, yes, no}
+use Rattle.words.specs.Lists.{pick}
 use Rattle.words.specs.Rows.{length-tab}
-use Rattle.intake.specs.declared.lines.Next.{Next}
-use Rattle.intake.specs.declared.lines.Next.TheVariants.{Line, NoLine}
-use Rattle.intake.specs.declared.calls.PutOutcome.{PutOutcome}
-use Rattle.intake.specs.declared.calls.PutOutcome.TheVariants.{Stored, Refused}
-use Rattle.intake.specs.declared.calls.TurnOutcome.{TurnOutcome}
-use Rattle.intake.specs.declared.calls.TurnOutcome.TheVariants.{Served, Nothing}
-use Rattle.intake.specs.Queue.{Queue, queue, circle, first_held, put, turn, serve, no_room, AfterPut, AfterTurn, after_put, after_turn}
+use Rattle.intake.specs.declared.calls.Refusal.TheVariants.{NoRoom}
+use Rattle.intake.specs.declared.calls.Served.{Served}
+use Rattle.intake.specs.Queue.{served, queue, circle, first_held, serve, AfterPut, AfterTurn, after_put, after_turn}
 use Rattle.intake.specs.Words.{Room, line_of, lines_of, last_of, queue_of}
 use Rattle.intake.specs.Laws.{lines_at}
 use Rattle.intake.specs.Circle.{NextIs, next-is, none-held}
@@ -46,11 +42,11 @@ module _ (m n : List ℕ) (k : ℕ) (l : List ℕ) (b : k < 256) (e : lines_of n
       ∙ get_or-set_other (lines_of m) k i l [] (λ q. eqb-false k i t (sym q)) ∙ lines_at m i c
 
 module _ (m n : List ℕ) (room : Room m) where
-  pub put_step : (k x : ℕ) → PutPromise m k x n Stored → PutStep m k x n
+  pub put_step : (k x : ℕ) → PutPromise m k x n (Ok tt) → PutStep m k x n
   put_step k x p = go (ltb 255 k) refl (leb 16 (length (get_or (lines_of m) k []))) refl (p.puts room)
     where
       go : (s : Bool) → ltb 255 k ≡ s → (t : Bool) → leb 16 (length (get_or (lines_of m) k [])) ≡ t
-          → after_put (queue_of n) Stored ≡ pick (pick s true t) (after_put (queue_of m) (Refused 32)) (after_put (queue (set (lines_of m) k (get_or (lines_of m) k [] ++ (x ∷ []))) (last_of m)) Stored)
+          → after_put (queue_of n) (Ok tt) ≡ pick (pick s true t) (after_put (queue_of m) (Err NoRoom)) (after_put (queue (set (lines_of m) k (get_or (lines_of m) k [] ++ (x ∷ []))) (last_of m)) (Ok tt))
           → PutStep m k x n
       go true s t f e = let z : ◌≡◌ {A = ℕ} 0 1 = cc (ap (λ (a : AfterPut). a.outcome) e) in absurd (omega arith)
       go false s true t e = let z : ◌≡◌ {A = ℕ} 0 1 = cc (ap (λ (a : AfterPut). a.outcome) e) in absurd (omega arith)
@@ -66,36 +62,40 @@ module _ (m n : List ℕ) (room : Room m) where
             last = ap (λ (a : AfterPut). a.queue.last) e;
           }
 
-  -- a list that is not empty is its first and the rest
-  uncons : (l : List ℕ) → 0 < length l → l ≡ get_or l 0 0 ∷ drop 1 l
-  uncons [] h = absurd (omega arith)
-  uncons (x ∷ xs) h = refl
+  -- what a turn answered, field by field
+  abbrev line_in : Option Served → ℕ
+  line_in None = 0
+  line_in (Some s) = s.line
 
-  pub turn_step : (k x : ℕ) → TurnPromise m n (Served k x) → TurnStep m n k x
+  abbrev handle_in : Option Served → ℕ
+  handle_in None = 0
+  handle_in (Some s) = s.handle
+
+  pub turn_step : (k x : ℕ) → TurnPromise m n (served k x) → TurnStep m n k x
   turn_step k x p = go (first_held (lines_of m) (circle (last_of m))) refl (p.turns room)
     where
-      go : (f : Next) → first_held (lines_of m) (circle (last_of m)) ≡ f → after_turn (queue_of n) (Served k x) ≡ serve (queue_of m) f → TurnStep m n k x
-      go NoLine f e = let z : ◌≡◌ {A = ℕ} 0 1 = cc (ap (λ (a : AfterTurn). a.outcome) e) in absurd (omega arith)
-      go (Line j) f e =
+      go : (f : Option ℕ) → first_held (lines_of m) (circle (last_of m)) ≡ f → after_turn (queue_of n) (served k x) ≡ serve (queue_of m) f → TurnStep m n k x
+      go None f e = let z : ◌≡◌ {A = ℕ} 0 1 = cc (ap (λ (a : AfterTurn). a.outcome) e) in absurd (omega arith)
+      go (Some j) f e =
           let o = ap (λ (a : AfterTurn). a.outcome) e in
-          let is : k ≡ j = cc o in
-          let y = next-is (lines_of m) (last_of m) (omega arith) k (f ∙ ap Line (sym is)) in
+          let is : k ≡ j = ap line_in o in
+          let y = next-is (lines_of m) (last_of m) (omega arith) k (f ∙ ap Some (sym is)) in
           let b : k < 256 = y.below in
           let at : get_or (lines_of m) k [] ≡ line_of m k = lines_at m k b in
-          let got : x ≡ get_or (get_or (lines_of m) j []) 0 0 = cc o in
+          let got : x ≡ get_or (get_or (lines_of m) j []) 0 0 = ap handle_in o in
           let lines : lines_of n ≡ set (lines_of m) k (drop 1 (get_or (lines_of m) k [])) = rw is (ap (λ (a : AfterTurn). a.queue.lines) e) in
           let handed : x ≡ get_or (line_of m k) 0 0 = got ∙ rw (← is) (ap (λ (z : List ℕ). get_or z 0 0) at) in
           let left : line_of n k ≡ drop 1 (line_of m k) = own_line m n k (drop 1 (get_or (lines_of m) k [])) b lines ∙ ap (drop 1) at in
           record {
             next = y;
-            own = uncons (line_of m k) (rw at at y.some) ∙ (λ z. sym handed z ∷ sym left z);
+            own = drop-cons (line_of m k) 0 0 (rw at at y.some) ∙ (λ z. sym handed z ∷ sym left z);
             others = other-line m n k (drop 1 (get_or (lines_of m) k [])) b lines;
             last = ap (λ (a : AfterTurn). a.queue.last) e ∙ sym is;
           }
 
-  pub none-step : TurnPromise m n Nothing → (i : ℕ) → i < 256 → length (line_of m i) ≡ 0
+  pub none-step : TurnPromise m n None → (i : ℕ) → i < 256 → length (line_of m i) ≡ 0
   none-step p i b = go (first_held (lines_of m) (circle (last_of m))) refl (p.turns room)
     where
-      go : (f : Next) → first_held (lines_of m) (circle (last_of m)) ≡ f → after_turn (queue_of n) Nothing ≡ serve (queue_of m) f → length (line_of m i) ≡ 0
-      go NoLine f e = rw (lines_at m i b) at (none-held (lines_of m) (last_of m) (omega arith) f i b)
-      go (Line j) f e = let z : ◌≡◌ {A = ℕ} 0 1 = cc (ap (λ (a : AfterTurn). a.outcome) e) in absurd (omega arith)
+      go : (f : Option ℕ) → first_held (lines_of m) (circle (last_of m)) ≡ f → after_turn (queue_of n) None ≡ serve (queue_of m) f → length (line_of m i) ≡ 0
+      go None f e = rw (lines_at m i b) at (none-held (lines_of m) (last_of m) (omega arith) f i b)
+      go (Some j) f e = let z : ◌≡◌ {A = ℕ} 0 1 = cc (ap (λ (a : AfterTurn). a.outcome) e) in absurd (omega arith)

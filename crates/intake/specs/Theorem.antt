@@ -1,20 +1,16 @@
 -- The theorem: after every list of puts and turns from an empty queue, refused ones included, `Fair` holds.
-use Rattle.std.specs.Prelude.{ℕ, zero, suc, ◌+◌, ◌-◌, ◌*◌, ◌%◌, ◌≤◌, ◌<◌, ◌≡◌, refl, Bool, true, false, List, [], ◌∷◌, ◌++◌, eqb, ltb, length, get_or}
+use Rattle.std.specs.Prelude.{ℕ, suc, ◌+◌, ◌-◌, ◌*◌, ◌≤◌, ◌<◌, ◌≡◌, refl, Bool, true, false, List, [], ◌∷◌, ◌++◌, eqb, ltb, length, get_or, Some, None, Ok, Err}
 use Rattle.std.proofs.Common.{sym, ap, ◌∙◌, append_assoc, append-nil, arith, length-append, ltb-true, ltb-false, eqb-true, eq-eqb}
 use Rattle.std.proofs.Math.ListN.{get_or-append}
+use Rattle.std.proofs.Math.Seq.{get_or-append_seam}
 use Rattle.std.proofs.lemmas.Bool.{eqb-false}
 use Rattle.words.specs.Lists.{pick}
 use Rattle.words.specs.Rows.{get_or-tab}
-use Rattle.intake.specs.declared.calls.StartOutcome.TheVariants.{Ready}
-use Rattle.intake.specs.declared.calls.PutOutcome.{PutOutcome}
-use Rattle.intake.specs.declared.calls.PutOutcome.TheVariants.{Stored, Refused}
-use Rattle.intake.specs.declared.calls.TurnOutcome.{TurnOutcome}
-use Rattle.intake.specs.declared.calls.TurnOutcome.TheVariants.{Served, Nothing}
-use Rattle.intake.specs.Queue.{Queue, empty}
-use Rattle.intake.specs.Words.{Room, line_of, lines_of, last_of, queue_of}
+use Rattle.intake.specs.Queue.{Said, Queue, empty}
+use Rattle.intake.specs.Words.{Room, line_of, last_of}
 use Rattle.intake.specs.Laws.{lines_at}
-use Rattle.intake.specs.Circle.{between, NextIs}
-use Rattle.intake.specs.Promises.{StartPromise, PutPromise, TurnPromise}
+use Rattle.intake.specs.Circle.{between}
+use Rattle.intake.specs.Promises.{StartPromise, PutPromise}
 use Rattle.intake.specs.Steps.{PutStep, TurnStep, put_step, turn_step, none-step}
 use Rattle.intake.specs.Run.{Event, Puts, Turns, Empty, Run, begin, puts, turns, stored_in, handed_out, turns_in, Fair}
 
@@ -41,12 +37,12 @@ module _ (m n : List ℕ) (k x i : ℕ) (b : i < 256) (a s : List ℕ) (e : a ++
 
 order : {h : List Event} {m : List ℕ} → Run h m → (i : ℕ) → i < 256 → handed_out i h ++ line_of m i ≡ stored_in i h
 order (begin e) i b = e.none i b
-order (puts {h = h} r k x (Refused c) p) i b = ap (λ (w : List ℕ). handed_out i h ++ line_of w i) (p.refused c refl) ∙ order r i b
-order (puts {h = h} {m = m} r k x Stored {n = n} p) i b =
+order (puts {h = h} r k x (Err c) p) i b = ap (λ (w : List ℕ). handed_out i h ++ line_of w i) (p.refused c refl) ∙ order r i b
+order (puts {h = h} {m = m} r k x (Ok done) {n = n} p) i b =
     order-put m n k x i b (handed_out i h) (stored_in i h) (order r i b) (put_step m n (run_room r) k x p) (eqb k i) refl
-order (turns {h = h} r Nothing p) i b = ap (λ (w : List ℕ). handed_out i h ++ line_of w i) (p.nothing refl) ∙ order r i b
-order (turns {h = h} {m = m} r (Served k x) {n = n} p) i b =
-    order-turn m n k x i b (handed_out i h) (stored_in i h) (order r i b) (turn_step m n (run_room r) k x p) (eqb k i) refl
+order (turns {h = h} r None p) i b = ap (λ (w : List ℕ). handed_out i h ++ line_of w i) (p.nothing refl) ∙ order r i b
+order (turns {h = h} {m = m} r (Some s) {n = n} p) i b =
+    order-turn m n s.line s.handle i b (handed_out i h) (stored_in i h) (order r i b) (turn_step m n (run_room r) s.line s.handle p) (eqb s.line i) refl
 
 -- ---- never more than 16
 
@@ -63,10 +59,10 @@ module _ (m n : List ℕ) (k x i : ℕ) (b : i < 256) (e : length (line_of m i) 
 
 few : {h : List Event} {m : List ℕ} → Run h m → (i : ℕ) → i < 256 → length (line_of m i) ≤ 16
 few (begin e) i b = omega (arith, ap length (e.none i b))
-few (puts {m = m} r k x (Refused c) p) i b = rw (p.refused c refl) (few r i b)
-few (puts {m = m} r k x Stored {n = n} p) i b = few-put m n k x i b (few r i b) (put_step m n (run_room r) k x p) (eqb k i) refl
-few (turns {m = m} r Nothing p) i b = rw (p.nothing refl) (few r i b)
-few (turns {m = m} r (Served k x) {n = n} p) i b = few-turn m n k x i b (few r i b) (turn_step m n (run_room r) k x p) (eqb k i) refl
+few (puts {m = m} r k x (Err c) p) i b = rw (p.refused c refl) (few r i b)
+few (puts {m = m} r k x (Ok done) {n = n} p) i b = few-put m n k x i b (few r i b) (put_step m n (run_room r) k x p) (eqb k i) refl
+few (turns {m = m} r None p) i b = rw (p.nothing refl) (few r i b)
+few (turns {m = m} r (Some s) {n = n} p) i b = few-turn m n s.line s.handle i b (few r i b) (turn_step m n (run_room r) s.line s.handle p) (eqb s.line i) refl
 
 -- ---- within 256 × (k + 1) turns
 
@@ -109,16 +105,16 @@ record Begins (i x : ℕ) (s : List ℕ) (h : List Event) : Type 0 where
   more : List ℕ
   is : stored_in i h ≡ (s ++ (x ∷ [])) ++ more
 
-begins : (later earlier : List Event) (i x : ℕ) → Begins i x (stored_in i earlier) (later ++ (Puts i x Stored ∷ earlier))
+begins : (later earlier : List Event) (i x : ℕ) → Begins i x (stored_in i earlier) (later ++ (Puts i x (Ok tt) ∷ earlier))
 begins [] earlier i x =
     record { more = []; is = ap (λ (t : Bool). stored_in i earlier ++ pick t (x ∷ []) []) (eq-eqb i i refl) ∙ sym (append-nil (stored_in i earlier ++ (x ∷ []))) }
-begins (Puts j y Stored ∷ later) earlier i x =
+begins (Puts j y (Ok done) ∷ later) earlier i x =
     let g = begins later earlier i x in
     record {
       more = g.more ++ pick (eqb j i) (y ∷ []) [];
       is = ap (λ (z : List ℕ). z ++ pick (eqb j i) (y ∷ []) []) g.is ∙ append_assoc (stored_in i earlier ++ (x ∷ [])) g.more (pick (eqb j i) (y ∷ []) []);
     }
-begins (Puts j y (Refused c) ∷ later) earlier i x = let g = begins later earlier i x in record { more = g.more; is = g.is }
+begins (Puts j y (Err c) ∷ later) earlier i x = let g = begins later earlier i x in record { more = g.more; is = g.is }
 begins (Turns o ∷ later) earlier i x = let g = begins later earlier i x in record { more = g.more; is = g.is }
 
 module _ (i x : ℕ) (s : List ℕ) (h : List Event) (g : Begins i x s h) where
@@ -129,54 +125,50 @@ module _ (i x : ℕ) (s : List ℕ) (h : List Event) (g : Begins i x s h) where
   at-number =
       ap (λ (z : List ℕ). get_or z (length s) 0) g.is
       ∙ get_or-append (s ++ (x ∷ [])) g.more 0 (length s) (omega (arith, length-append s (x ∷ [])))
-      ∙ get_or-seam s (x ∷ [])
-    where
-      get_or-seam : (s l : List ℕ) → get_or (s ++ l) (length s) 0 ≡ get_or l 0 0
-      get_or-seam [] l = refl
-      get_or-seam (y ∷ ys) l = get_or-seam ys l
+      ∙ get_or-append_seam s x [] 0
 
-in-range : (later earlier : List Event) (i x : ℕ) {m : List ℕ} → Run (later ++ (Puts i x Stored ∷ earlier)) m → i < 256
+in-range : (later earlier : List Event) (i x : ℕ) {m : List ℕ} → Run (later ++ (Puts i x (Ok tt) ∷ earlier)) m → i < 256
 in-range [] earlier i x (puts {m = m} r k y o {n = n} p) = (put_step m n (run_room r) i x p).below
 in-range (e ∷ later) earlier i x (puts r k y o p) = in-range later earlier i x r
 in-range (e ∷ later) earlier i x (turns r o p) = in-range later earlier i x r
 
 -- what is held of a line is what was stored and not handed out
-held-yet : (later earlier : List Event) (i x : ℕ) {m : List ℕ} → Run (later ++ (Puts i x Stored ∷ earlier)) m
-    → length (stored_in i earlier) < length (handed_out i (later ++ (Puts i x Stored ∷ earlier))) + length (line_of m i)
+held-yet : (later earlier : List Event) (i x : ℕ) {m : List ℕ} → Run (later ++ (Puts i x (Ok tt) ∷ earlier)) m
+    → length (stored_in i earlier) < length (handed_out i (later ++ (Puts i x (Ok tt) ∷ earlier))) + length (line_of m i)
 held-yet later earlier i x {m} r =
-    let h = later ++ (Puts i x Stored ∷ earlier) in
+    let h = later ++ (Puts i x (Ok tt) ∷ earlier) in
     omega (arith, numbered i x (stored_in i earlier) h (begins later earlier i x), ap length (order r i (in-range later earlier i x r)), length-append (handed_out i h) (line_of m i))
 
-same-last : (m n : List ℕ) (j y : ℕ) (o : PutOutcome) → Room m → PutPromise m j y n o → last_of n ≡ last_of m
-same-last m n j y Stored room p = (put_step m n room j y p).last
-same-last m n j y (Refused c) room p = ap last_of (p.refused c refl)
+same-last : (m n : List ℕ) (j y : ℕ) (o : Said) → Room m → PutPromise m j y n o → last_of n ≡ last_of m
+same-last m n j y (Ok done) room p = (put_step m n room j y p).last
+same-last m n j y (Err c) room p = ap last_of (p.refused c refl)
 
 module _ (earlier : List Event) (i x k : ℕ) (e : length (stored_in i earlier) ≡ length (handed_out i earlier) + k) where
-  due : (later : List Event) {m : List ℕ} → Run (later ++ (Puts i x Stored ∷ earlier)) m
-      → Due m i (length (stored_in i earlier)) (length (handed_out i (later ++ (Puts i x Stored ∷ earlier)))) k (turns_in later)
+  due : (later : List Event) {m : List ℕ} → Run (later ++ (Puts i x (Ok tt) ∷ earlier)) m
+      → Due m i (length (stored_in i earlier)) (length (handed_out i (later ++ (Puts i x (Ok tt) ∷ earlier)))) k (turns_in later)
   due [] {m} (puts r j y o p) = record { left = λ c is. omega (arith, e, is) }
   due (Puts j y o ∷ later) (puts {m = m} r j' y' o' {n = n} p) =
-      due-stays m n i (length (stored_in i earlier)) k (turns_in later) (in-range later earlier i x r) (length (handed_out i (later ++ (Puts i x Stored ∷ earlier)))) (same-last m n j y o (run_room r) p) (due later r)
-  due (Turns Nothing ∷ later) (turns {m = m} r o {n = n} p) =
+      due-stays m n i (length (stored_in i earlier)) k (turns_in later) (in-range later earlier i x r) (length (handed_out i (later ++ (Puts i x (Ok tt) ∷ earlier)))) (same-last m n j y o (run_room r) p) (due later r)
+  due (Turns None ∷ later) (turns {m = m} r o {n = n} p) =
       record { left = λ c is. absurd (omega (arith, is, held-yet later earlier i x r, none-step m n (run_room r) p i (in-range later earlier i x r))) }
-  due (Turns (Served j y) ∷ later) (turns {m = m} r o {n = n} p) =
-      go (turn_step m n (run_room r) j y p) (due later r) (in-range later earlier i x r) (held-yet later earlier i x r) (eqb j i) refl
+  due (Turns (Some v) ∷ later) (turns {m = m} r o {n = n} p) =
+      go (turn_step m n (run_room r) v.line v.handle p) (due later r) (in-range later earlier i x r) (held-yet later earlier i x r) (eqb v.line i) refl
     where
       h : List Event
-      h = later ++ (Puts i x Stored ∷ earlier)
+      h = later ++ (Puts i x (Ok tt) ∷ earlier)
 
-      go : TurnStep m n j y → Due m i (length (stored_in i earlier)) (length (handed_out i (later ++ (Puts i x Stored ∷ earlier)))) k (turns_in later) → i < 256
-          → length (stored_in i earlier) < length (handed_out i (later ++ (Puts i x Stored ∷ earlier))) + length (line_of m i)
-          → (t : Bool) → eqb j i ≡ t → Due n i (length (stored_in i earlier)) (length (handed_out i (later ++ (Puts i x Stored ∷ earlier)) ++ pick t (y ∷ []) [])) k (suc (turns_in later))
-      go s d b held true t = rw length-append (due-own m n i (length (stored_in i earlier)) k (turns_in later) b (length (handed_out i h)) j y s t d)
-      go s d b held false t = rw append-nil (due-other m n i (length (stored_in i earlier)) k (turns_in later) b (length (handed_out i h)) j y s t held d)
+      go : TurnStep m n v.line v.handle → Due m i (length (stored_in i earlier)) (length (handed_out i (later ++ (Puts i x (Ok tt) ∷ earlier)))) k (turns_in later) → i < 256
+          → length (stored_in i earlier) < length (handed_out i (later ++ (Puts i x (Ok tt) ∷ earlier))) + length (line_of m i)
+          → (t : Bool) → eqb v.line i ≡ t → Due n i (length (stored_in i earlier)) (length (handed_out i (later ++ (Puts i x (Ok tt) ∷ earlier)) ++ pick t (v.handle ∷ []) [])) k (suc (turns_in later))
+      go s d b held true t = rw length-append (due-own m n i (length (stored_in i earlier)) k (turns_in later) b (length (handed_out i h)) v.line v.handle s t d)
+      go s d b held false t = rw append-nil (due-other m n i (length (stored_in i earlier)) k (turns_in later) b (length (handed_out i h)) v.line v.handle s t held d)
 
-  out-soon : (later : List Event) {m : List ℕ} → Run (later ++ (Puts i x Stored ∷ earlier)) m → 256 * (k + 1) ≤ turns_in later
-      → length (stored_in i earlier) < length (handed_out i (later ++ (Puts i x Stored ∷ earlier)))
-  out-soon later {m} r enough = go (ltb (length (stored_in i earlier)) (length (handed_out i (later ++ (Puts i x Stored ∷ earlier))))) refl
+  out-soon : (later : List Event) {m : List ℕ} → Run (later ++ (Puts i x (Ok tt) ∷ earlier)) m → 256 * (k + 1) ≤ turns_in later
+      → length (stored_in i earlier) < length (handed_out i (later ++ (Puts i x (Ok tt) ∷ earlier)))
+  out-soon later {m} r enough = go (ltb (length (stored_in i earlier)) (length (handed_out i (later ++ (Puts i x (Ok tt) ∷ earlier))))) refl
     where
       out : ℕ
-      out = length (handed_out i (later ++ (Puts i x Stored ∷ earlier)))
+      out = length (handed_out i (later ++ (Puts i x (Ok tt) ∷ earlier)))
 
       number : ℕ
       number = length (stored_in i earlier)
@@ -191,10 +183,10 @@ pub fair : {h : List Event} {m : List ℕ} → Run h m → Fair h m
 fair {h} {m} r = record { order = order r; few = few r; soon = λ later earlier i x k is e enough. soon later earlier i x k e enough (rw is at r) is }
   where
     soon : (later earlier : List Event) (i x k : ℕ) → length (stored_in i earlier) ≡ length (handed_out i earlier) + k → 256 * (k + 1) ≤ turns_in later
-        → Run (later ++ (Puts i x Stored ∷ earlier)) m → h ≡ later ++ (Puts i x Stored ∷ earlier)
+        → Run (later ++ (Puts i x (Ok tt) ∷ earlier)) m → h ≡ later ++ (Puts i x (Ok tt) ∷ earlier)
         → (length (stored_in i earlier) < length (handed_out i h)) × (get_or (handed_out i h) (length (stored_in i earlier)) 0 ≡ x)
     soon later earlier i x k e enough r is =
-        let g = later ++ (Puts i x Stored ∷ earlier) in
+        let g = later ++ (Puts i x (Ok tt) ∷ earlier) in
         let out : length (stored_in i earlier) < length (handed_out i g) = out-soon earlier i x k e later r enough in
         rw is (
           out,
@@ -204,7 +196,7 @@ fair {h} {m} r = record { order = order r; few = few r; soon = λ later earlier 
         )
 
 -- a start leaves an empty queue
-pub started-empty : {was is : List ℕ} → Room was → StartPromise was is Ready → Empty is
+pub started-empty : {was is : List ℕ} → Room was → StartPromise was is (Ok tt) → Empty is
 unfolding empty
 started-empty {was} {is} room p =
     record { room = omega (arith, p.outside.size); none = λ i b. sym (lines_at is i b) ∙ ap (λ (q : Queue). get_or q.lines i []) (p.ready refl) ∙ get_or-tab (λ k. []) 256 i [] b }

@@ -1,16 +1,12 @@
 -- How lent words are read as a queue: 256 lines of 18 words (head, tail, 16 places) and a word for the line served last.
 -- "head and tail that run on and wrap at 32 bits". Every list of words reads as some queue, whoever wrote it.
-use Rattle.std.specs.Prelude.{ℕ, ◌+◌, ◌-◌, ◌*◌, ◌%◌, ◌^◌, ◌≤◌, ◌<◌, ◌≡◌, List, [], ◌∷◌, ◌++◌, length, get_or, drop, set}
+use Rattle.std.specs.Prelude.{ℕ, ◌+◌, ◌-◌, ◌*◌, ◌%◌, ◌≤◌, ◌<◌, ◌≡◌, List, [], ◌∷◌, ◌++◌, length, get_or, drop, set}
 use Rattle.words.specs.Rows.{tab}
 use Rattle.intake.specs.Queue.{Queue, queue}
 
 -- there are words enough
 abbrev pub Room : List ℕ → Type 0
 Room l = 4609 ≤ length l
-
-pub record InQueue (l : List ℕ) (i : ℕ) : Type 0 where
-  pub room : Room l
-  pub below : i < 256
 
 -- where line i has its handle of this count
 abbrev pub place : ℕ → ℕ → ℕ
@@ -40,7 +36,17 @@ last_of l = get_or l 4608 0 % 256
 abbrev pub queue_of : List ℕ → Queue
 queue_of l = queue (lines_of l) (last_of l)
 
+-- the words behind the queue stay, and there are as many as before
+pub record Outside (was is : List ℕ) : Type 0 where
+  pub size : length is ≡ length was
+  pub rest : drop 4609 is ≡ drop 4609 was
+
 -- ---- what the steps of the calls leave
+
+-- the first n lines have head and tail 0; the other words behind them stay
+pub record Cleared (was is : List ℕ) (n : ℕ) : Type 0 where
+  pub zeroes : (i : ℕ) → i < n → (get_or is (i * 18) 0 ≡ 0) × (get_or is (i * 18 + 1) 0 ≡ 0)
+  pub outside : Outside was is
 
 pub record Appended (was : List ℕ) (i x : ℕ) (is : List ℕ) : Type 0 where
   pub lines : lines_of is ≡ set (lines_of was) i (line_of was i ++ (x ∷ []))

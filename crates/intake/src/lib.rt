@@ -17,30 +17,33 @@
 pub mod calls;
 pub mod lines;
 
-ghost use Rattle.intake.specs.Exports.{ToldStart, ToldPut, ToldTurn};
+ghost use Rattle.std.specs.Prelude.{◌≡◌};
+ghost use Rattle.intake.specs.Exports.{said_code, ToldStart, ToldPut, ToldTurn};
 
-use crate::calls::{PutOutcome, StartOutcome, TurnOutcome, put, start, turn};
+use crate::calls::{Refusal, Served, put, start, turn};
+
+// The number that C sees: 0, or that of the refusal.
+fn code(said: Result<(), Refusal>) -> u64
+    ensures { result ≡ said_code said }
+{
+    match said {
+        Ok(()) => 0,
+        Err(refusal) => refusal as u64,
+    }
+}
 
 // Makes the queue empty.
 pub fn gunthyd_intake_start(queue: &mut [u64]) -> u64
     ensures { ToldStart queue.old queue.new result }
 {
-    let said = start(queue);
-    match said {
-        StartOutcome::Ready => 0,
-        StartOutcome::NotStarted(code) => code,
-    }
+    code(start(queue))
 }
 
 // Stores a handle at the end of a line.
 pub fn gunthyd_intake_put(queue: &mut [u64], line: u64, handle: u64) -> u64
     ensures { ToldPut queue.old line handle queue.new result }
 {
-    let said = put(queue, line, handle);
-    match said {
-        PutOutcome::Stored => 0,
-        PutOutcome::Refused(code) => code,
-    }
+    code(put(queue, line, handle))
 }
 
 // Hands out the oldest handle of the next line in circular order after the one served last, with its line.
@@ -50,13 +53,10 @@ pub fn gunthyd_intake_turn(queue: &mut [u64], answer: &mut [u64]) -> u64
     if answer.len() < 2 {
         return 0;
     }
-    let said = turn(queue);
-    match said {
-        TurnOutcome::Served(line, handle) => {
-            answer[0] = handle;
-            answer[1] = line;
-            1
-        }
-        TurnOutcome::Nothing => 0,
-    }
+    let Some(Served { line, handle }) = turn(queue) else {
+        return 0;
+    };
+    answer[0] = handle;
+    answer[1] = u64::from(line);
+    1
 }
