@@ -89,6 +89,13 @@ pub struct Submission {
     pub verdict: Verdict,
 }
 
+// The lists of a submission, or of a transaction that is given back: its inputs and its outputs.
+#[derive(Clone, Copy)]
+pub struct Lists<'a> {
+    pub inputs: &'a [u64],
+    pub outputs: &'a [u64],
+}
+
 // ---- refusals
 
 // Why a call is refused, with the number that the rules have for it. `specs/Refusals.antt` has each number's sentence.
@@ -127,6 +134,14 @@ impl From<Refusal> for u64 {
     fn from(refusal: Refusal) -> u64 {
         refusal as u64
     }
+}
+
+// ---- what a changing call hands back: the state, and what it answers
+
+#[derive(Clone, Copy)]
+pub struct Done<O> {
+    pub mempool: Mempool,
+    pub outcome: O,
 }
 
 // ---- outcomes. `specs/Outcomes.antt` gives number and values of every case. A start answers the state of an empty pool, a return, an invalidation and an

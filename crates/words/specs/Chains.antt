@@ -1,12 +1,17 @@
 -- Chains through slots, newest first, by functions alone: `h i` is the bucket of slot i, `lk i` the link that stands in slot i and `hd b` the word
 -- that stands as the head of bucket b. A link or a head names a slot by one more than its index, and 0 names none.
-use Rattle.std.specs.Prelude.{◌≡◌, ℕ, zero, suc, ◌<◌, ◌≤◌, Bool, true, false, ◌==◌, ◌≢◌, nat_lt}
+use Rattle.std.specs.Prelude.{◌≡◌, ℕ, zero, suc, ◌<◌, ◌≤◌, Bool, true, false, ◌==◌, ◌≢◌, nat_lt, Option, None, Some}
 use Rattle.std.proofs.Math.Path.{refl, sym, ap}
 use Rattle.std.proofs.Common.{◌∙◌}
 use Rattle.std.proofs.Math.Decide.{ℕ_discrete}
 use native.Mathlib.Omega.{arith}
 use borrow.Author.Tests.{eqb-true, eq-eqb, ne_eqb, lt-ltb, le-ltb, ltb-true, ltb-false}
 use Rattle.words.specs.Lists.{pick}
+
+-- the word that names a slot
+abbrev pub name_of : Option ℕ → ℕ
+name_of None = 0
+name_of (Some i) = suc i
 
 -- ---- the slot before n that is the last of bucket b
 

@@ -1,6 +1,6 @@
 // Ids of 32 bytes, as four words of 64 bits with the first bytes first. In a contract an id is one number, `id_of`, so that the order of
 // ids as bytes is the order of numbers.
-ghost use Rattle.std.specs.Prelude.{◌≡◌, ◌+◌, ◌≤◌, [], ◌∷◌, length, ◌==◌};
+ghost use Rattle.std.specs.Prelude.{◌≡◌, ◌+◌, ◌≤◌, length, ◌==◌};
 ghost use Rattle.std.specs.Ordering.{nat_cmp, on, as_partial_cmp};
 ghost use Rattle.std.specs.Cmp.Rules.{comparing};
 ghost use Rattle.std.specs.Cmp.{partial_order_from_own_ties};
@@ -95,7 +95,7 @@ impl PartialOrd for Id {
     }
 }
 
-// The four words from index `at`.
+// The four words from index `at`. No `From`: an id stands in the middle of a table's words, and an array made first would say no more.
 pub fn get_id(s: &[u64], at: usize) -> Id
     requires { at + 4 ≤ length s.now }
     ensures words { result ≡ words_at s.now at }
@@ -107,14 +107,6 @@ pub fn get_id(s: &[u64], at: usize) -> Id
         c: s[at + 2],
         d: s[at + 3],
     }
-}
-
-// Writes four words from index `at` on.
-pub fn put_four(s: &mut [u64], at: usize, a: u64, b: u64, c: u64, d: u64)
-    requires { Four at (length s.old) }
-    ensures { s.new ≡ stored s.old at (a ∷ b ∷ c ∷ d ∷ []) }
-{
-    put_words(s, at, &[a, b, c, d]);
 }
 
 // Writes an id to the four words from index `at`.

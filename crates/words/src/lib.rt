@@ -2,6 +2,7 @@
 #![tactic(auto)]
 
 pub mod buckets;
+pub mod chains;
 pub mod ids;
 pub mod rows;
 pub mod wide;
