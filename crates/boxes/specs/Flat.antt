@@ -1,7 +1,8 @@
 -- Lists that callers hand in as words: records of W words, of which each begins with an id, for any width of at least four. `ids_to W l n` is the
 -- list of the first n ids, and `ids_of W l` that of all whole records.
-use Rattle.std.specs.Prelude.{ℕ, ◌+◌, ◌*◌, ◌/◌, ◌≤◌, ◌<◌, ◌≡◌, refl, true, false, ◌||◌, List, [], ◌∷◌, eqb, length, drop, set}
-use Rattle.std.proofs.Common.{sym, ◌∙◌, add-mul, mul-le-mul_right, div-mul-le_self, div-le_self, add-zero, one-mul, arith, ext_get_or}
+use Rattle.std.specs.Prelude.{ℕ, zero, suc, ◌+◌, ◌-◌, ◌*◌, ◌/◌, ◌≤◌, ◌<◌, ◌≡◌, refl, false, ◌||◌, List, [], ◌∷◌, eqb, length, drop, set}
+use Rattle.std.specs.List.{list_any, range_with_len}
+use Rattle.std.proofs.Common.{sym, ap, ◌∙◌, add-mul, mul-le-mul_right, div-mul-le_self, div-le_self, add-zero, one-mul, arith, ext_get_or}
 use Rattle.words.specs.Rows.{tab, length-tab, get_or-tab, take-tab, blk-lit, recs, rec_at, length-recs, get_or-recs, recs-store, stored}
 use Rattle.words.specs.Tables.{Table, drop_of, drop_past}
 use Rattle.words.specs.Ids.{num, id_of, id_at, id_words}
@@ -43,18 +44,16 @@ count-le W l = div-le_self (length l) W
 
 -- ---- a search through them
 
-module _ (W : ℕ) (l : List ℕ) (n i k x : ℕ) (h : i < n) (e : x ≡ id_at l (i * W)) where
-  among-here : among k (drop i (ids_to W l n)) ≡ (eqb x k || among k (drop (i + 1) (ids_to W l n)))
-  among-here = rw (drop_of (ids W) l n i h, e) (among-cons k (id_at l (i * W)) (drop (i + 1) (ids_to W l n)))
+among-here : (W : ℕ) (l : List ℕ) (n i k : ℕ) → i < n → among k (drop i (ids_to W l n)) ≡ (eqb (id_at l (i * W)) k || among k (drop (i + 1) (ids_to W l n)))
+among-here W l n i k h = rw (drop_of (ids W) l n i h) (among-cons k (id_at l (i * W)) (drop (i + 1) (ids_to W l n)))
 
-  pub among-hit : eqb x k ≡ true → among k (drop i (ids_to W l n)) ≡ true
-  among-hit t = among-here ∙ rw t
-
-  pub among-miss : eqb x k ≡ false → among k (drop i (ids_to W l n)) ≡ among k (drop (i + 1) (ids_to W l n))
-  among-miss t = among-here ∙ rw t
-
-pub among-end : (W : ℕ) (l : List ℕ) (n i k : ℕ) → n ≤ i → among k (drop i (ids_to W l n)) ≡ false
+among-end : (W : ℕ) (l : List ℕ) (n i k : ℕ) → n ≤ i → among k (drop i (ids_to W l n)) ≡ false
 among-end W l n i k h = rw (drop_past (ids W) l n i h)
+
+-- the same, as a chain over the records says it
+pub among-range : (W : ℕ) (l : List ℕ) (k m i n : ℕ) → n - i ≡ m → among k (drop i (ids_to W l n)) ≡ list_any (λ j. eqb (id_at l (j * W)) k) (range_with_len i m)
+among-range W l k zero i n e = among-end W l n i k (omega arith)
+among-range W l k (suc m) i n e = among-here W l n i k (omega arith) ∙ ap (λ t. eqb (id_at l (i * W)) k || t) (among-range W l k m (i + 1) n (omega arith))
 
 -- ---- a list of ids alone, as answers are written: an id stored is `set` on the list of ids
 

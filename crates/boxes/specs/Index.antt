@@ -1,19 +1,15 @@
 -- The indexes of a table's first n slots by column c, 0 the boxes' and 1 the owners' (`Indexed`), what each change of words does to them, and THE
 -- INVARIANT of the table (`BoxesKept`).
-use Rattle.std.specs.Prelude.{Option, Some, None, ℕ, zero, suc, ◌+◌, ◌-◌, ◌*◌, ◌/◌, ◌^◌, ◌≤◌, ◌<◌, ◌≡◌, List, length, set}
+use Rattle.std.specs.Prelude.{ℕ, zero, suc, ◌+◌, ◌-◌, ◌*◌, ◌/◌, ◌^◌, ◌≤◌, ◌<◌, ◌≡◌, List, length, set}
 use Rattle.std.proofs.Common.{ap, ◌∙◌, arith}
 use Rattle.std.proofs.Math.Numerals.{add-one}
+use Rattle.std.specs.Coded.{le_prop}
 use Rattle.std.proofs.Math.ListN.{get_or, length-set}
 use Rattle.std.proofs.Math.Seq.{get_or-set_other, get_or-set_same}
 use Rattle.words.specs.Ids.{num, id_at}
 use Rattle.words.specs.Buckets.{bucket_of, bucket-low}
 use Rattle.words.specs.Chains.{checked, Chained, chained-none, chained_same, chained_more}
 use Rattle.boxes.specs.Layout.{box_slots, id_place, kind_place, link_place, head_place, key_place, OfRow, of_row, last_row, link-off, link-unique, head-low, head-high, head-unique, key_at, kind_at, slot_of, slot_at, key_word, slots_used, boxes_of, used-none, no-boxes}
-
--- the word that names a slot as a head or a link does: one more than its number, and 0 for none
-abbrev pub name_of : Option ℕ → ℕ
-name_of None = 0
-name_of (Some i) = suc i
 
 -- the last word of the id in column c of slot i, and its bucket; the link in slot i, and the head of bucket b
 unfoldable pub last_at : List ℕ → ℕ → ℕ → ℕ
@@ -28,14 +24,13 @@ link_at l c i = get_or l (link_place c i) 0
 unfoldable pub head_at : List ℕ → ℕ → ℕ → ℕ
 head_at l c b = get_or l (head_place (box_slots l) c b) 0
 
--- the head, as the code reads it
-pub head-word : (l : List ℕ) (c b p w : ℕ) → w ≡ get_or l p 0 → p ≡ head_place (box_slots l) c b → w ≡ head_at l c b
-unfolding head_at
-head-word l c b p w e f = e ∙ ap (λ (x : ℕ). get_or l x 0) f
-
 -- each word is a word
 unfoldable pub AllWords : List ℕ → Type 0
 AllWords l = (i : ℕ) → get_or l i 0 < 2 ^ 64
+
+pub words-one : (l : List ℕ) → IsProp (AllWords l)
+unfolding AllWords
+words-one l a b = λ t i. le_prop (a i) (b i) t
 
 unfoldable pub Indexed : List ℕ → ℕ → ℕ → Type 0
 Indexed l c n = Chained (hash_at l c) (link_at l c) (head_at l c) (box_slots l) n

@@ -6,6 +6,7 @@
 use Rattle.std.specs.Prelude.{ℕ, zero, suc, ◌+◌, ◌-◌, ◌*◌, ◌/◌, ◌≤◌, ◌<◌, min, max, ◌≡◌, refl, Bool, true, false, not, ◌&&◌, List, [], ◌∷◌, ◌++◌, map, length, get_or, eqb, ltb}
 use Rattle.std.proofs.Common.{sym, ap, ◌∙◌, arith, eqb-true, ne_eqb, le-ltb}
 use Rattle.std.proofs.Math.Decide.{dec_lt, ℕ_discrete}
+use Rattle.std.specs.Coded.{le_prop}
 use Rattle.std.proofs.lemmas.Bool.{not-true, not-false}
 use Rattle.words.specs.Lists.{pick}
 use Rattle.words.specs.Rows.{tab, length-tab, get_or-tab, take-tab, tab-ext, map-tab}
@@ -37,6 +38,10 @@ boxes_room l = box_slots l * 4 / 5
 
 unfoldable pub BoxesOk : List ℕ → ℕ → Type 0
 BoxesOk l n = n ≤ boxes_room l
+
+pub ok-one : (l : List ℕ) (n : ℕ) → IsProp (BoxesOk l n)
+unfolding BoxesOk
+ok-one l n = le_prop
 
 -- ---- where the words stand: the id and the link in column c of slot i, 0 the box's and 1 the owner's; its kind; the head of bucket b, of s; and
 -- behind all, how many slots are used and the key
@@ -117,16 +122,6 @@ head-unique s zero zero b d p q h g e = (refl, omega arith)
 head-unique s zero (suc o) b d p q h g e = absurd (omega arith)
 head-unique s (suc c) zero b d p q h g e = absurd (omega arith)
 head-unique s (suc c) (suc o) b d p q h g e = (omega arith, omega arith)
-
--- .. as the code finds it
-pub head-box : (s c b : ℕ) → c ≡ 0 → s * 11 + b ≡ head_place s c b
-unfolding head_place
-head-box s c b e = rw e
-
-pub head-owner : (s c b : ℕ) → (c ≡ 0 → ⊥) → s * 12 + b ≡ head_place s c b
-unfolding head_place
-head-owner s zero b d = absurd (d refl)
-head-owner s (suc c) b d = refl
 
 -- three slots have 41 words: the second slot is from 11 on, the heads from 33 and from 36 on
 places-edge : (id_place 1 1 ≡ 17) × (kind_place 1 ≡ 15) × (link_place 1 1 ≡ 21) × (head_place 3 0 0 ≡ 33) × (head_place 3 1 2 ≡ 38) × (used_place 3 ≡ 39) × (key_place 3 ≡ 40)
@@ -315,10 +310,6 @@ room-still l m e = rw e
 pub ok-bound : (l : List ℕ) (n : ℕ) → BoxesOk l n → n ≤ length l
 unfolding BoxesOk boxes_room
 ok-bound l n h = omega arith
-
-pub ok-slots : (l : List ℕ) (n : ℕ) → BoxesOk l n → n ≤ box_slots l
-unfolding BoxesOk boxes_room
-ok-slots l n h = omega arith
 
 pub room-slots : (l : List ℕ) → boxes_room l ≤ box_slots l
 unfolding boxes_room

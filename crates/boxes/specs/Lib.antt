@@ -18,3 +18,4 @@ pub mod Linking
 pub mod Posts
 pub mod IndexLaws
 pub mod Inputs
+pub mod Views

@@ -1,56 +1,20 @@
 -- Searches by the indexes find what a search of the decoded records finds.
 use Rattle.std.specs.Prelude.{None, Option, Some}
-use Prim.Native.Nat.{ℕ, zero, suc, ◌+◌, ◌≤◌, ◌<◌}
+use Prim.Native.Nat.{ℕ, suc, ◌+◌, ◌≤◌, ◌<◌}
 use Rattle.std.proofs.Math.Path.{◌≡◌, refl}
 use Rattle.std.proofs.Common.{sym, ap, ◌∙◌, arith}
 use Rattle.std.specs.Prelude.{Bool, ◌&&◌, List, [], ◌∷◌, eqb, ltb}
 use Rattle.std.proofs.Math.Bool.{true, false}
 use Rattle.std.proofs.Math.Decide.{dec_lt, ℕ_discrete}
-use borrow.Author.Tests.{eqb-true, eqb-false, eq-eqb, ne_eqb, lt-ltb, le-ltb, ltb-true}
-use Rattle.words.specs.Lists.{pick}
+use borrow.Author.Tests.{eqb-true, eqb-false, ne_eqb, lt-ltb, ltb-true}
 use Rattle.words.specs.Ids.{Words, id_of, id_at, id-inj, words_at}
 use Rattle.words.specs.Buckets.{bucket_of, bucket-low}
-use Rattle.words.specs.Chains.{prev, prev-in, prev-gap, checked, checked-le, bounded, bounded-le}
+use Rattle.words.specs.Chains.{name_of, prev, prev-in, prev-gap, checked, checked-le, bounded, bounded-le}
 use Rattle.words.specs.declared.ids.Id.{Id}
 use Rattle.boxes.specs.Records.{index, lookup, is_input}
 use Rattle.boxes.specs.Lookup.{is_entry, lookup-none, lookup_first}
 use Rattle.boxes.specs.Layout.{box_slots, BoxesOk, id_place, key_at, key_word, box_at, rows_of, slots_used, all_rows, boxes_of, box-is, owner-is, entry-is, index-rows, slots-low, used-none}
-use Rattle.boxes.specs.Index.{name_of, last_at, hash_at, link_at, head_at, AllWords, Indexed, BoxesKept}
-
--- ---- the code's tests of a head's word x, and of a link's
-
-module _ (h : ℕ → ℕ) (n b w x : ℕ) (f : w ≡ x) where
-  pub head-zero : w ≡ 0 → 0 ≡ checked h n b x
-  unfolding checked
-  head-zero e = rw (← f, e)
-
-  pub head-far : n < w → 0 ≡ checked h n b x
-  unfolding checked
-  head-far q = rw (← f) (go w q)
-    where
-      go : (w : ℕ) → n < w → 0 ≡ checked h n b w
-      go zero q = refl
-      go (suc j) q = rw (le-ltb j n (omega arith))
-
-  pub head-out : (j y : ℕ) → w ≡ suc j → y ≡ h j → (y ≡ b → ⊥) → 0 ≡ checked h n b x
-  unfolding checked
-  head-out j y e g d = rw (← f, e, ne_eqb (h j) b (λ z. d (g ∙ z))) (none (ltb j n))
-    where
-      none : (t : Bool) → ◌≡◌ {A = ℕ} 0 (pick t 0 0)
-      none true = refl
-      none false = refl
-
-  pub head_in : (j y : ℕ) → w ≡ suc j → w ≤ n → y ≡ h j → y ≡ b → w ≡ checked h n b x
-  unfolding checked
-  head_in j y e q g d = rw (← f, e, lt-ltb j n (omega arith), eq-eqb (h j) b (sym g ∙ d))
-
-pub link-far : (i w x : ℕ) → w ≡ x → i < w → 0 ≡ bounded i x
-unfolding bounded
-link-far i w x f q = rw (← f, lt-ltb i w q)
-
-pub link_near : (i w x : ℕ) → w ≡ x → w ≤ i → w ≡ bounded i x
-unfolding bounded
-link_near i w x f q = rw (← f, le-ltb i w q)
+use Rattle.boxes.specs.Index.{last_at, hash_at, link_at, head_at, AllWords, Indexed, BoxesKept}
 
 -- links go down
 pub link-less : (u i x v : ℕ) → u ≡ bounded i x → v ≡ suc i → u < v

@@ -3,7 +3,8 @@
 #![tactic(auto)]
 
 mod kinds;
-pub mod links;
+mod links;
 pub mod lists;
 pub mod records;
 pub mod rows;
+pub mod views;

@@ -1,4 +1,5 @@
-// The box records as the pool changes them: a transaction's records enter, and leave.
+// The box records as the pool changes them: a transaction's records enter, and leave. Functions over the words and a count, not methods of a struct:
+// tried, what a struct with a `&mut` writes is lost to a caller that made it from a field of its own.
 ghost use Rattle.std.specs.Prelude.{◌≡◌, true, false, ◌+◌, ◌-◌, ◌≤◌, ◌<◌};
 ghost use Rattle.words.specs.Ids.{id_of};
 ghost use Rattle.boxes.specs.Flat.{count_of, ids_of};
@@ -13,10 +14,10 @@ ghost use Rattle.boxes.specs.Posts.{Dropped, Behind, Entered};
 
 use crate::kinds::Kind;
 use crate::links::{bucket_in, head, link, link_in};
-use crate::lists::{count_of, id_at};
+use crate::lists::{Ids, TxIds};
 use crate::rows::{
-    box_key, box_out, boxes_room, hide_box, is_entry, is_gone, is_owner, move_box, put_used,
-    put_words, slots, slots_used, vacate_box,
+    box_key, box_out, boxes_room, hide_box, is_entry, is_gone, is_owner, move_box, put_slot,
+    put_used, slots, slots_used, vacate_box,
 };
 use words::ids::Id;
 
@@ -105,51 +106,32 @@ fn make_room(s: &mut [u64], used: usize, needed: usize) -> usize
 // ---- a transaction enters
 
 // Writes the boxes of a list from slot `at` of the free part on, all live.
-fn write_list(free: &mut [u64], at: usize, owner: Id, out: bool, list: &[u64], width: usize)
-    requires list_bound { at + count_of width list.now ≤ part_slots free.old }
-    requires le_width { 4 ≤ width }
-    ensures { Wrote free.old free.new at (count_of width list.now) (id_of owner) out width list.now }
+fn write_list(free: &mut [u64], at: usize, owner: Id, out: bool, list: &Ids<'_>)
+    requires { at + count_of list.now.width list.now.words.now ≤ part_slots free.old }
+    ensures { Wrote free.old free.new at (count_of list.now.width list.now.words.now) (id_of owner) out list.now.width list.now.words.now }
 {
-    for i in 0..count_of(list, width) {
-        let key = id_at(list, width, i);
-        put_words(free, at + i, key, owner, Kind::live(out));
+    for i in 0..list.len() {
+        put_slot(free, at + i, list.id_at(i), owner, Kind::live(out));
     }
 }
 
 // Writes a newcomer's records into the free part, its inputs and then its outputs.
-fn write_records(
-    free: &mut [u64],
-    owner: Id,
-    inputs: &[u64],
-    in_width: usize,
-    outputs: &[u64],
-    out_width: usize,
-)
-    requires outputs_bound { count_of in_width inputs.now + count_of out_width outputs.now ≤ part_slots free.old }
-    requires le_in_width { (4 ≤ in_width) × (4 ≤ out_width) }
-    ensures { WroteBoth free.old free.new 0 (id_of owner) in_width inputs.now out_width outputs.now }
+fn write_records(free: &mut [u64], owner: Id, lists: &TxIds<'_>)
+    requires outputs_bound { count_of lists.now.inputs.width lists.now.inputs.words.now + count_of lists.now.outputs.width lists.now.outputs.words.now ≤ part_slots free.old }
+    ensures { WroteBoth free.old free.new 0 (id_of owner) lists.now.inputs.width lists.now.inputs.words.now lists.now.outputs.width lists.now.outputs.words.now }
 {
-    let at = count_of(inputs, in_width);
-    write_list(free, 0, owner, false, inputs, in_width);
-    write_list(free, at, owner, true, outputs, out_width);
+    let at = lists.inputs.len();
+    write_list(free, 0, owner, false, &lists.inputs);
+    write_list(free, at, owner, true, &lists.outputs);
 }
 
 // The part of the lent area behind the used slots is lent on to the writer.
-fn write_behind(
-    s: &mut [u64],
-    used: usize,
-    owner: Id,
-    inputs: &[u64],
-    in_width: usize,
-    outputs: &[u64],
-    out_width: usize,
-)
-    requires outputs_bound { used + (count_of in_width inputs.now + count_of out_width outputs.now) ≤ box_slots s.old }
-    requires le_in_width { (4 ≤ in_width) × (4 ≤ out_width) }
-    ensures { WroteBoth s.old s.new used (id_of owner) in_width inputs.now out_width outputs.now }
+fn write_behind(s: &mut [u64], used: usize, owner: Id, lists: &TxIds<'_>)
+    requires outputs_bound { used + (count_of lists.now.inputs.width lists.now.inputs.words.now + count_of lists.now.outputs.width lists.now.outputs.words.now) ≤ box_slots s.old }
+    ensures { WroteBoth s.old s.new used (id_of owner) lists.now.inputs.width lists.now.inputs.words.now lists.now.outputs.width lists.now.outputs.words.now }
 {
     let from = used * 11;
-    write_records(&mut s[from..], owner, inputs, in_width, outputs, out_width);
+    write_records(&mut s[from..], owner, lists);
 }
 
 // Hides slot `i` if it is the index's entry for a box.
@@ -200,42 +182,24 @@ fn enter_slots(s: &mut [u64], used: usize, n: usize)
 }
 
 // A newcomer's records enter behind the used slots.
-fn enter_behind(
-    s: &mut [u64],
-    used: usize,
-    owner: Id,
-    inputs: &[u64],
-    in_width: usize,
-    outputs: &[u64],
-    out_width: usize,
-)
-    requires outputs_bound { used + (count_of in_width inputs.now + count_of out_width outputs.now) ≤ box_slots s.old }
-    requires le_in_width { (4 ≤ in_width) × (4 ≤ out_width) }
-    ensures { Behind s.old s.new used (count_of in_width inputs.now + count_of out_width outputs.now) (id_of owner) (ids_of in_width inputs.now) (ids_of out_width outputs.now) }
+fn enter_behind(s: &mut [u64], used: usize, owner: Id, lists: &TxIds<'_>)
+    requires outputs_bound { used + (count_of lists.now.inputs.width lists.now.inputs.words.now + count_of lists.now.outputs.width lists.now.outputs.words.now) ≤ box_slots s.old }
+    ensures { Behind s.old s.new used (count_of lists.now.inputs.width lists.now.inputs.words.now + count_of lists.now.outputs.width lists.now.outputs.words.now) (id_of owner) (ids_of lists.now.inputs.width lists.now.inputs.words.now) (ids_of lists.now.outputs.width lists.now.outputs.words.now) }
 {
-    let n = count_of(inputs, in_width) + count_of(outputs, out_width);
-    write_behind(s, used, owner, inputs, in_width, outputs, out_width);
+    let n = lists.len();
+    write_behind(s, used, owner, lists);
     enter_slots(s, used, n);
     put_used(s, used + n);
 }
 
 // A transaction's records enter: older ones of its boxes are hidden, and the new ones stand behind them. Returns how many records there are then.
 // Where there is no room for them, none enters.
-pub fn enter_tx(
-    s: &mut [u64],
-    n: usize,
-    owner: Id,
-    inputs: &[u64],
-    in_width: usize,
-    outputs: &[u64],
-    out_width: usize,
-) -> usize
+pub fn enter_tx(s: &mut [u64], n: usize, owner: Id, lists: &TxIds<'_>) -> usize
     requires boxes_ok { BoxesOk s.old n }
-    requires le_in_width { (4 ≤ in_width) × (4 ≤ out_width) }
     ensures boxes_ok_2 { BoxesOk s.new result }
-    ensures entered { BoxesKept s.old n → n + (count_of in_width inputs.now + count_of out_width outputs.now) ≤ boxes_room s.old → Entered s.old s.new n result (id_of owner) (ids_of in_width inputs.now) (ids_of out_width outputs.now) }
+    ensures entered { BoxesKept s.old n → n + (count_of lists.now.inputs.width lists.now.inputs.words.now + count_of lists.now.outputs.width lists.now.outputs.words.now) ≤ boxes_room s.old → Entered s.old s.new n result (id_of owner) (ids_of lists.now.inputs.width lists.now.inputs.words.now) (ids_of lists.now.outputs.width lists.now.outputs.words.now) }
 {
-    let needed = count_of(inputs, in_width) + count_of(outputs, out_width);
+    let needed = lists.len();
     if boxes_room(s) - n < needed {
         return n;
     }
@@ -243,6 +207,6 @@ pub fn enter_tx(
     if slots(s) - used < needed {
         return n;
     }
-    enter_behind(s, used, owner, inputs, in_width, outputs, out_width);
+    enter_behind(s, used, owner, lists);
     n + needed
 }

@@ -1,7 +1,7 @@
 // The words of the box records. A slot has eleven: the box's id, the kind, the slot's link in the index of boxes, the owner's id, and its link in the
 // index of owners, so that what a search reads of a slot stands together. Behind the slots stand the heads of all buckets of boxes, those of
 // all buckets of owners, how many slots are used, and the key of the buckets. Only this file and links.rt know the layout.
-ghost use Rattle.std.specs.Prelude.{◌≡◌, ◌<◌, eqb, set};
+ghost use Rattle.std.specs.Prelude.{◌≡◌, ◌≤◌, ◌<◌, eqb, set};
 ghost use Rattle.words.specs.Lists.{pick};
 ghost use Rattle.words.specs.Ids.{id_of};
 ghost use Rattle.boxes.specs.Records.{is_input};
@@ -13,7 +13,7 @@ ghost use Rattle.boxes.specs.Stores.{Put};
 use crate::kinds::Kind;
 use words::ids::{Id, get_id, put_id};
 
-// How many slots the lent area has.
+// How many slots the lent area has. Entries and cache have this line with numbers of their own: one function of the number is no plainer.
 pub(crate) fn slots(s: &[u64]) -> usize
     ensures { result ≡ box_slots s.now }
 {
@@ -21,6 +21,7 @@ pub(crate) fn slots(s: &[u64]) -> usize
 }
 
 // How many records it holds. The rest of the slots is slack: records are moved together once in many insertions, however full it is.
+#[tactic(auto, unfolding(crate::specs::Layout::boxes_room))]
 pub fn boxes_room(s: &[u64]) -> usize
     ensures { result ≡ boxes_room s.now }
 {
@@ -30,9 +31,12 @@ pub fn boxes_room(s: &[u64]) -> usize
 // ---- what is read
 
 // How many slots are used, of n records. The word may be anything, in words that no start left, and where there are no records it is not read.
+#[tactic(auto, unfolding(crate::specs::Layout::BoxesOk, crate::specs::Layout::boxes_room, crate::specs::Layout::used_word, crate::specs::Layout::slots_used))]
 pub(crate) fn slots_used(s: &[u64], n: usize) -> usize
     requires { BoxesOk s.now n }
-    ensures { result ≡ slots_used s.now n }
+    ensures value { result ≡ slots_used s.now n }
+    ensures low { n ≤ result }
+    ensures high { result ≤ box_slots s.now }
 {
     if n == 0 {
         return 0;
@@ -42,6 +46,7 @@ pub(crate) fn slots_used(s: &[u64], n: usize) -> usize
 }
 
 // The id in column `c` of slot `i`: 0 for the box's, 1 for the owner's.
+#[tactic(auto, unfolding(crate::specs::Layout::key_at))]
 pub(crate) fn column_id(s: &[u64], c: usize, i: usize) -> Id
     requires { (c < 2) × (i < box_slots s.now) }
     ensures { id_of result ≡ key_at s.now c i }
@@ -49,6 +54,7 @@ pub(crate) fn column_id(s: &[u64], c: usize, i: usize) -> Id
     get_id(s, i * 11 + c * 6)
 }
 
+#[tactic(auto, unfolding(crate::specs::Layout::kind_at))]
 fn kind_at(s: &[u64], i: usize) -> Kind
     requires { i < box_slots s.now }
     ensures { result ≡ kind_of (kind_at s.now i) }
@@ -57,7 +63,8 @@ fn kind_at(s: &[u64], i: usize) -> Kind
 }
 
 // The box of the record in slot `i`.
-pub fn box_key(s: &[u64], i: usize) -> Id
+#[tactic(auto, unfolding(crate::specs::Layout::box_at, crate::specs::Layout::slot_at))]
+pub(crate) fn box_key(s: &[u64], i: usize) -> Id
     requires { i < box_slots s.now }
     ensures { id_of result ≡ (box_at s.now i).box }
 {
@@ -65,7 +72,8 @@ pub fn box_key(s: &[u64], i: usize) -> Id
 }
 
 // Its owner.
-pub fn box_owner(s: &[u64], i: usize) -> Id
+#[tactic(auto, unfolding(crate::specs::Layout::box_at, crate::specs::Layout::slot_at))]
+pub(crate) fn box_owner(s: &[u64], i: usize) -> Id
     requires { i < box_slots s.now }
     ensures { id_of result ≡ (box_at s.now i).owner }
 {
@@ -73,7 +81,7 @@ pub fn box_owner(s: &[u64], i: usize) -> Id
 }
 
 // Whether it is an output of its owner.
-pub fn box_out(s: &[u64], i: usize) -> bool
+pub(crate) fn box_out(s: &[u64], i: usize) -> bool
     requires { i < box_slots s.now }
     ensures { result ≡ (box_at s.now i).out }
 {
@@ -116,7 +124,7 @@ pub(crate) fn is_entry(s: &[u64], i: usize, out: bool, key: Id) -> bool
 // ---- what is written
 
 // Writes the record of slot `i` of a part that starts with a slot. The words of the indexes stay as they are.
-pub(crate) fn put_words(s: &mut [u64], i: usize, key: Id, owner: Id, kind: Kind)
+pub(crate) fn put_slot(s: &mut [u64], i: usize, key: Id, owner: Id, kind: Kind)
     requires { i < part_slots s.old }
     ensures { Put s.old s.new i (slot_of (id_of key) (id_of owner) (kind_number kind)) }
 {
@@ -134,7 +142,7 @@ pub(crate) fn move_box(s: &mut [u64], from: usize, to: usize)
     let key = column_id(s, 0, from);
     let owner = column_id(s, 1, from);
     let kind = kind_at(s, from);
-    put_words(s, to, key, owner, kind);
+    put_slot(s, to, key, owner, kind);
 }
 
 // Slot `i` is free to be used again. It stays in its chains.

@@ -44,11 +44,6 @@ link_at l i = cell l i link_word
 unfoldable pub head_at : List ℕ → ℕ → ℕ
 head_at l b = cell l b head_word
 
--- the word that names a slot: one more than its number, and 0 for none
-abbrev pub name_of : Option ℕ → ℕ
-name_of None = 0
-name_of (Some i) = suc i
-
 -- THE INDEX of the first u slots
 unfoldable pub Indexed : List ℕ → ℕ → Type 0
 Indexed l u = Linked (hash_at l) (link_at l) (head_at l) (slot_count l) u

@@ -1,6 +1,7 @@
 -- The table of entries as callers know it: what it is as a list (`entries_of`), how many fit (`EntriesOk`), when its words are a table (`EntriesKept`), what a
 -- call leaves (`Left`), and the laws of these. Any words are a table of no entries.
 use Rattle.std.specs.Prelude.{ℕ, zero, suc, ◌≤◌, ◌<◌, ◌≡◌, refl, List, length}
+use Rattle.std.specs.Coded.{le_prop}
 use Rattle.std.proofs.Common.{sym, ◌∙◌, arith}
 use Rattle.entries.specs.Entries.{Entry}
 use Rattle.entries.specs.InOrder.{EntriesInOrder}
@@ -53,6 +54,11 @@ ok-still l m k n h e b = omega arith
 
 pub ok-fewer : (l : List ℕ) (k n : ℕ) → EntriesOk l n → k ≤ n → EntriesOk l k
 ok-fewer l k n h b = ok-still l l k n h refl b
+
+-- there is one proof at most: a struct keeps it
+pub ok-one : (l : List ℕ) (n : ℕ) → IsProp (EntriesOk l n)
+unfolding EntriesOk
+ok-one l n = le_prop
 
 -- a count of entries is an index
 pub ok-bound : (l : List ℕ) (n : ℕ) → EntriesOk l n → n ≤ length l

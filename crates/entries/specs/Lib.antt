@@ -16,3 +16,4 @@ pub mod Layout
 pub mod Laws
 pub mod Changing
 pub mod Crediting
+pub mod Views

@@ -218,40 +218,5 @@ module _ (h g : ℕ → ℕ) (i : ℕ) (same : (j : ℕ) → (j ≡ i → ⊥) �
     spliced =
         record { heads = λ c l. head-c c l (ℕ_discrete c b); links = λ j l m. link-j j l m (ℕ_discrete j i) (ℕ_discrete j q) (ℕ_discrete (h j) b) (dec_lt j i) }
 
--- ---- the code's tests of a head's word x, and of a link's
-
-module _ (h : ℕ → ℕ) (n b w x : ℕ) (f : w ≡ x) where
-  pub head-zero : w ≡ 0 → 0 ≡ checked h n b x
-  unfolding checked
-  head-zero e = rw (← f, e)
-
-  pub head-far : n < w → 0 ≡ checked h n b x
-  unfolding checked
-  head-far q = rw (← f) (go w q)
-    where
-      go : (w : ℕ) → n < w → 0 ≡ checked h n b w
-      go zero q = refl
-      go (suc j) q = rw (le-ltb j n (omega arith))
-
-  pub head-out : (j : ℕ) → w ≡ suc j → eqb (h j) b ≡ false → 0 ≡ checked h n b x
-  unfolding checked
-  head-out j e g = rw (← f, e, g) (none (ltb j n))
-    where
-      none : (t : Bool) → ◌≡◌ {A = ℕ} 0 (pick t 0 0)
-      none true = refl
-      none false = refl
-
-  pub head_in : (j : ℕ) → w ≡ suc j → w ≤ n → eqb (h j) b ≡ true → w ≡ checked h n b x
-  unfolding checked
-  head_in j e q g = rw (← f, e, lt-ltb j n (omega arith), g)
-
-pub link-far : (i w x : ℕ) → w ≡ x → i < w → 0 ≡ bounded i x
-unfolding bounded
-link-far i w x f q = rw (← f, lt-ltb i w q)
-
-pub link_near : (i w x : ℕ) → w ≡ x → w ≤ i → w ≡ bounded i x
-unfolding bounded
-link_near i w x f q = rw (← f, le-ltb i w q)
-
 pub link-less : (u i x v : ℕ) → u ≡ bounded i x → v ≡ suc i → u < v
 link-less u i x v f e = omega (arith, bounded-le i x)

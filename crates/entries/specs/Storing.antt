@@ -1,12 +1,12 @@
 -- The fourteen words of an entry are written in a slot.
 use Rattle.std.specs.Prelude.{None, Option, Some}
 use Rattle.std.specs.Prelude.{ℕ, zero, suc, ◌+◌, ◌*◌, ◌≤◌, ◌<◌, ◌≡◌, refl, List, [], ◌∷◌, ◌++◌, length, set}
-use Rattle.std.proofs.Common.{sym, ◌∙◌, add-zero, add-suc, suc-add, add_assoc, arith, length-set, get_or-set_same}
+use Rattle.std.proofs.Common.{◌∙◌, add-zero, add-suc, suc-add, arith, length-set, get_or-set_same}
 use Rattle.std.proofs.Math.Decide.{dec_lt}
 use Rattle.std.proofs.Math.ListN.{get_or}
 use Rattle.std.proofs.lemmas.List.Edits.{sets}
 use Rattle.std.proofs.Math.Seq.{length-sets}
-use Rattle.words.specs.Rows.{stored, stored-sets, stored-append, sets-before, sets-after}
+use Rattle.words.specs.Rows.{stored, stored-sets, sets-before, sets-after}
 use Rattle.words.specs.Ids.{id_of, id_words}
 use Rattle.entries.specs.Cells.{entry_of, cost_of, tag_of, value_of, slot_count, slot_words, use_word, cell, raw_at, entry_in, entry_from, from-ext}
 use Rattle.entries.specs.Held.{EntryPut}
@@ -20,31 +20,6 @@ entry_words e =
 pub cost-of : (c : Option ℕ) → cost_of (tag_of c) (value_of c) ≡ c
 cost-of None = refl
 cost-of (Some v) = refl
-
--- ---- the code's stores: three calls and two words
-
-parts : (a b c d : List ℕ) (l : List ℕ) (p : ℕ) → length a ≡ 4 → length b ≡ 4 → length c ≡ 4
-    → stored (stored (stored (stored l p a) (p + 4) b) (p + 8) c) (p + 12) d ≡ stored l p (a ++ (b ++ (c ++ d)))
-parts a b c d l p ea eb ec =
-    let x = stored l p a in
-    let y = stored x (p + 4) b in
-    sym
-    (rw ea at (stored-append a (b ++ (c ++ d)) l p)
-    ∙ rw (eb, add_assoc p 4 4) at (stored-append b (c ++ d) x (p + 4))
-    ∙ rw (ec, add_assoc p 8 4) at (stored-append c d y (p + 8)))
-
-abbrev weights : PoolEntry → List ℕ
-weights e = e.weight ∷ e.base ∷ e.size ∷ e.cost ∷ []
-
-abbrev times : PoolEntry → List ℕ
-times e = tag_of e.validation_cost ∷ value_of e.validation_cost ∷ e.created ∷ e.last_checked ∷ []
-
-pub put-parts : (l : List ℕ) (p : ℕ) (e : PoolEntry)
-    → set (set (stored (stored (stored l p (id_words e.id)) (p + 4) (weights e)) (p + 8) (times e)) (p + 12) e.height_key) (p + 13) e.inputs ≡ stored l p (entry_words e)
-put-parts l p e =
-    rw (add_assoc p 12 1) at (parts (id_words e.id) (weights e) (times e) (e.height_key ∷ e.inputs ∷ []) l p refl refl refl)
-
--- ---- what they leave
 
 sets-in : (vs l : List ℕ) (p j : ℕ) → j < length vs → p + length vs ≤ length l → get_or (sets l p vs) (p + j) 0 ≡ get_or vs j 0
 sets-in [] l p j h r = absurd (omega arith)

@@ -25,7 +25,7 @@ pub(crate) const LINK: usize = 15;
 
 pub(crate) const HEAD: usize = 16;
 
-// How many slots there are.
+// How many slots there are. The functions of this file take the words beside a slot or a rank: no count travels with them that a struct could keep.
 pub(crate) fn slots(s: &[u64]) -> usize
     ensures { result ≡ slot_count s.now }
 {

@@ -1,14 +1,15 @@
 // The index of ids: a chain of slots for each bucket, from high slots to low. A head that names no slot in use of its bucket is taken for none, so that a start
 // clears nothing; a link that does not go down is taken for none, so that a walk ends.
-ghost use Rattle.std.specs.Prelude.{◌≡◌, true, false, ℕ, ◌^◌, ◌≤◌, ◌<◌, eqb};
+ghost use Rattle.std.specs.Prelude.{◌≡◌, true, false, ◌≤◌, ◌<◌, eqb};
 ghost use Rattle.words.specs.Ids.{id_of};
-ghost use Rattle.words.specs.Chains.{checked, bounded};
+ghost use Rattle.words.specs.Chains.{name_of, checked, bounded};
 ghost use Rattle.entries.specs.Cells.{slot_count, last_word, cell};
-ghost use Rattle.entries.specs.Index.{home_of, hash_at, link_at, head_at, name_of, Cutting, FoundSlot};
+ghost use Rattle.entries.specs.Index.{home_of, hash_at, link_at, head_at, Cutting, FoundSlot};
 ghost use Rattle.entries.specs.Marking.{mended, Marked};
 
 use crate::cells::{HEAD, LAST, LINK, USE, get, id_in, put, raw, slots};
 use words::buckets::bucket_of;
+use words::chains::{name_of, named};
 use words::ids::Id;
 
 // A place in a chain: the slot above it, where it is not the head, and the slot that is linked to there.
@@ -16,24 +17,6 @@ use words::ids::Id;
 pub struct Cut {
     pub above: Option<usize>,
     pub below: Option<usize>,
-}
-
-// The word that names a slot: one more than its number, and 0 for none.
-fn name_of(slot: Option<usize>) -> u64
-    requires { name_of slot < 2 ^ 64 }
-    ensures { result ≡ name_of slot }
-{
-    match slot {
-        Some(i) => (i + 1) as u64,
-        None => 0,
-    }
-}
-
-// The slot that a word names.
-fn named(word: u64) -> Option<usize>
-    ensures { name_of result ≡ word }
-{
-    (word as usize).checked_sub(1)
 }
 
 // The bucket of ids whose last word is `d`.
@@ -58,25 +41,21 @@ fn is_in(s: &[u64], i: usize, b: usize, d: u64) -> bool
 }
 
 // The highest of the first u slots that is in bucket `b`, which is that of ids whose last word is `d`.
+#[tactic(auto, unfolding(crate::specs::Index::head_at, words::specs::Chains::checked))]
 fn head(s: &[u64], u: usize, b: usize, d: u64) -> Option<usize>
     requires { (u ≤ slot_count s.now) × (b < slot_count s.now) × (b ≡ home_of s.now d) }
     ensures { name_of result ≡ checked (hash_at s.now) u b (head_at s.now b) }
 {
-    let i = named(get(s, b, HEAD))?;
-    if i < u && is_in(s, i, b, d) {
-        Some(i)
-    } else {
-        None
-    }
+    named(get(s, b, HEAD)).filter(|i| *i < u && is_in(s, *i, b, d))
 }
 
 // The slot that slot `i` links to.
+#[tactic(auto, unfolding(crate::specs::Index::link_at, words::specs::Chains::bounded))]
 fn link(s: &[u64], i: usize) -> Option<usize>
     requires { i < slot_count s.now }
     ensures { name_of result ≡ bounded i (link_at s.now i) }
 {
-    let below = named(get(s, i, LINK))?;
-    if below < i { Some(below) } else { None }
+    named(get(s, i, LINK)).filter(|below| *below < i)
 }
 
 // The place in the chain of bucket `b`, its id's, where slot `i` is or belongs.
@@ -97,6 +76,7 @@ fn cut_at(s: &[u64], u: usize, b: usize, i: usize) -> Cut
 }
 
 // At a place in the chain of bucket `b`, `x` is linked to.
+#[tactic(auto, unfolding(crate::specs::Marking::mended))]
 fn mend(s: &mut [u64], b: usize, above: Option<usize>, x: u64)
     requires { (b < slot_count s.old) × (name_of above ≤ slot_count s.old) }
     ensures { s.new ≡ mended s.old b (name_of above) x }

@@ -1,18 +1,18 @@
 // The words of an entry: the id's four, weight, base, size, cost, the validation cost's tag and value, created, last checked, height key, number of
-// inputs. They are read by rank and written in a slot.
-#![tactic(auto, unfolding(crate::specs::Layout::EntriesOk, crate::specs::Layout::entries_room))]
+// inputs. They are read by rank (`views`) and written in a slot.
+#![tactic(auto, unfolding(crate::specs::Layout::entries_room))]
 
-ghost use Rattle.std.specs.Prelude.{◌≡◌, ℕ, ◌+◌, ◌≤◌, ◌<◌, length};
-ghost use Rattle.words.specs.Ids.{id_of};
+ghost use Rattle.std.specs.Prelude.{◌≡◌, ◌+◌, ◌≤◌, ◌<◌, length};
 ghost use Rattle.words.specs.Rows.{stored};
-ghost use Rattle.entries.specs.Cells.{slot_count, slot_words, field_place, word_of};
-ghost use Rattle.entries.specs.Layout.{entries_room, EntriesOk, entry_of, entry_at};
+ghost use Rattle.entries.specs.Cells.{slot_count, slot_words, field_place};
+ghost use Rattle.entries.specs.Layout.{entries_room, entry_of};
 ghost use Rattle.entries.specs.Storing.{entry_words};
 ghost use Rattle.entries.specs.Held.{EntryPut};
 ghost use Rattle.entries.specs.Crediting.{Stamps};
 
-use crate::cells::{MEASURE, MEASURED, SLOT, get, id_in, put, slot_at, slots};
-use words::ids::{Id, put_four, put_id};
+use crate::cells::{MEASURE, MEASURED, SLOT, put, slots};
+use words::ids::{Id, put_id};
+use words::rows::put_words;
 
 #[derive(Clone, Copy)]
 pub struct PoolEntry {
@@ -35,11 +35,9 @@ pub fn entries_room(s: &[u64]) -> usize
     slots(s)
 }
 
-// ---- what is read: the fields of the entry at rank i
-
 // The fields that are a word by themselves, each by its place in the slot.
 #[derive(Clone, Copy)]
-enum Field {
+pub(crate) enum Field {
     Weight = 4,
     Base = 5,
     Size = 6,
@@ -51,54 +49,12 @@ enum Field {
 }
 
 impl Field {
-    fn place(self) -> usize
+    // A method, and no `as` where it is read: its clause says which place that is, and that it is in the slot.
+    pub(crate) fn place(self) -> usize
         ensures { (result ≡ field_place self) × (result < slot_words) }
     {
         self as usize
     }
-}
-
-fn word_at(s: &[u64], i: usize, field: Field) -> u64
-    requires { EntriesOk s.now (i + 1) }
-    ensures { result ≡ word_of (entry_at s.now i) field }
-{
-    get(s, slot_at(s, i), field.place())
-}
-
-pub fn id_at(s: &[u64], i: usize) -> Id
-    requires { EntriesOk s.now (i + 1) }
-    ensures { id_of result ≡ (entry_at s.now i).id }
-{
-    id_in(s, slot_at(s, i))
-}
-
-pub fn weight_at(s: &[u64], i: usize) -> u64
-    requires { EntriesOk s.now (i + 1) }
-    ensures { result ≡ (entry_at s.now i).weight }
-{
-    word_at(s, i, Field::Weight)
-}
-
-pub fn base_at(s: &[u64], i: usize) -> u64
-    requires { EntriesOk s.now (i + 1) }
-    ensures { result ≡ (entry_at s.now i).base }
-{
-    word_at(s, i, Field::Base)
-}
-
-pub fn validation_cost_at(s: &[u64], i: usize) -> Option<u64>
-    requires { EntriesOk s.now (i + 1) }
-    ensures { result ≡ (entry_at s.now i).validation_cost }
-{
-    let k = slot_at(s, i);
-    (get(s, k, MEASURED) != 0).then_some(get(s, k, MEASURE))
-}
-
-pub fn created_at(s: &[u64], i: usize) -> u64
-    requires { EntriesOk s.now (i + 1) }
-    ensures { result ≡ (entry_at s.now i).created }
-{
-    word_at(s, i, Field::Created)
 }
 
 // When an entry came, and its base: what a histogram asks of every entry. Its slot is looked up once.
@@ -108,69 +64,29 @@ pub struct Since {
     pub base: u64,
 }
 
-pub fn since_at(s: &[u64], i: usize) -> Since
-    requires { EntriesOk s.now (i + 1) }
-    ensures { (result.created ≡ (entry_at s.now i).created) × (result.base ≡ (entry_at s.now i).base) }
-{
-    let k = slot_at(s, i);
-    Since {
-        created: get(s, k, Field::Created.place()),
-        base: get(s, k, Field::Base.place()),
-    }
-}
-
-pub fn last_checked_at(s: &[u64], i: usize) -> u64
-    requires { EntriesOk s.now (i + 1) }
-    ensures { result ≡ (entry_at s.now i).last_checked }
-{
-    word_at(s, i, Field::LastChecked)
-}
-
-pub fn height_key_at(s: &[u64], i: usize) -> u64
-    requires { EntriesOk s.now (i + 1) }
-    ensures { result ≡ (entry_at s.now i).height_key }
-{
-    word_at(s, i, Field::HeightKey)
-}
-
-pub fn inputs_at(s: &[u64], i: usize) -> u64
-    requires { EntriesOk s.now (i + 1) }
-    ensures { result ≡ (entry_at s.now i).inputs }
-{
-    word_at(s, i, Field::Inputs)
-}
-
-pub fn entry_at(s: &[u64], i: usize) -> PoolEntry
-    requires { EntriesOk s.now (i + 1) }
-    ensures { entry_of result ≡ entry_at s.now i }
-{
-    PoolEntry {
-        id: id_at(s, i),
-        weight: weight_at(s, i),
-        base: base_at(s, i),
-        size: word_at(s, i, Field::Size),
-        cost: word_at(s, i, Field::Cost),
-        validation_cost: validation_cost_at(s, i),
-        created: created_at(s, i),
-        last_checked: last_checked_at(s, i),
-        height_key: height_key_at(s, i),
-        inputs: inputs_at(s, i),
-    }
-}
-
 // ---- what is written in a slot
 
+// The entry's words, in place: an array of all fourteen would be copied once more.
 fn put_row(s: &mut [u64], p: usize, e: PoolEntry)
     requires { p + 14 ≤ length s.old }
     ensures { s.new ≡ stored s.old p (entry_words e) }
 {
     let measured = u64::from(e.validation_cost.is_some());
     let measure = e.validation_cost.unwrap_or(0);
+    let behind_id = [
+        e.weight,
+        e.base,
+        e.size,
+        e.cost,
+        measured,
+        measure,
+        e.created,
+        e.last_checked,
+        e.height_key,
+        e.inputs,
+    ];
     put_id(s, p, e.id);
-    put_four(s, p + 4, e.weight, e.base, e.size, e.cost);
-    put_four(s, p + 8, measured, measure, e.created, e.last_checked);
-    s[p + 12] = e.height_key;
-    s[p + 13] = e.inputs;
+    put_words(s, p + 4, &behind_id);
 }
 
 // Writes an entry. The slot's use and link stay as they are.

@@ -7,3 +7,4 @@ pub mod chain;
 pub mod fields;
 pub mod order;
 pub mod table;
+pub mod views;

@@ -1,5 +1,5 @@
 // The order of the entries: the rank of a weight and an id by halving, and turns of the words of ranks by one place.
-ghost use Rattle.std.specs.Prelude.{◌≡◌, ℕ, ◌≤◌, ◌<◌, length};
+ghost use Rattle.std.specs.Prelude.{◌≡◌, ◌≤◌, ◌<◌, length};
 ghost use Rattle.std.specs.List.{RotatedLeft};
 ghost use Rattle.words.specs.Ids.{id_of};
 ghost use Rattle.entries.specs.Cells.{slot_count, entry_in};

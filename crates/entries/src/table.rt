@@ -2,11 +2,10 @@
 // order, and the ranks behind those name the others, which are used again first. So no entry is moved, and a word moves for each rank passed.
 #![tactic(auto, unfolding(crate::specs::Layout::EntriesOk))]
 
-ghost use Rattle.std.specs.Prelude.{Some};
-ghost use Rattle.std.specs.Prelude.{◌≡◌, false, ℕ, ◌+◌, ◌-◌, ◌≤◌, ◌<◌};
+ghost use Rattle.std.specs.Prelude.{◌≡◌, false, ◌+◌, ◌-◌, ◌≤◌, ◌<◌};
 ghost use Rattle.words.specs.Ids.{id_of};
 ghost use Rattle.words.specs.Find.{without, drop_last};
-ghost use Rattle.entries.specs.Entries.{insert_by, pooled, place_of, credit, stamped};
+ghost use Rattle.entries.specs.Entries.{insert_by, pooled, credit, stamped};
 ghost use Rattle.entries.specs.Cells.{slot_count};
 ghost use Rattle.entries.specs.Layout.{EntriesOk, EntriesKept, Left, entry_of, entries_of};
 ghost use Rattle.entries.specs.Held.{Settled, Cleared, Filled};
@@ -22,30 +21,13 @@ use words::ids::Id;
 // ---- what is looked for
 
 // The rank of the entry with this id, of u slots of which n are in use.
-fn find_rank(s: &[u64], u: usize, n: usize, id: Id) -> Option<usize>
+pub(crate) fn find_rank(s: &[u64], u: usize, n: usize, id: Id) -> Option<usize>
     requires { (n ≤ u) × (u ≤ slot_count s.now) }
     ensures { FoundRank s.now u n (id_of id) result }
 {
     let i = find_slot(s, u, id)?;
     let r = rank(s, n, get(s, i, WEIGHT), id);
     if r < n { Some(r) } else { None }
-}
-
-// The place of the entry with this id among n.
-pub fn find_entry(s: &[u64], n: usize, id: Id) -> Option<usize>
-    requires { EntriesOk s.now n }
-    ensures by_index { (i : ℕ) → result ≡ Some i → i < n }
-    ensures value { EntriesKept s.now n → result ≡ place_of (id_of id) (entries_of s.now n) }
-{
-    find_rank(s, known(s, n), n, id)
-}
-
-// Whether an entry has this id: its slot is found, and no rank.
-pub fn is_pooled(s: &[u64], n: usize, id: Id) -> bool
-    requires { EntriesOk s.now n }
-    ensures { EntriesKept s.now n → result ≡ pooled (id_of id) (entries_of s.now n) }
-{
-    find_slot(s, known(s, n), id).is_some()
 }
 
 // ---- what the changes are made of
@@ -77,6 +59,7 @@ fn fill(s: &mut [u64], u: usize, n: usize, e: PoolEntry)
 }
 
 // The slot of rank n goes out of use.
+#[tactic(auto, using(crate::specs::Held::cleared_at))]
 fn clear(s: &mut [u64], u: usize, n: usize)
     requires { (n < u) × (u ≤ slot_count s.old) }
     ensures { Cleared s.old s.new u n }
@@ -106,6 +89,7 @@ fn raise(s: &mut [u64], at: usize, amount: u64) -> u64
 }
 
 // ---- the changes
+// These take the words and a count, and are no methods: what a struct with a `&mut` leaves is lost to callers that make it from another struct's field.
 
 // Puts an entry, whose id is not among n, where the order has it.
 pub fn insert_entry(s: &mut [u64], n: usize, e: PoolEntry)

@@ -21,8 +21,8 @@ pub record Roomy (l m : List ℕ) (f n r : ℕ) : Type 0 where
 pub roomy-stay : (l : List ℕ) (f n : ℕ) → f + n < slots_in l → Roomy l l f n f
 roomy-stay l f n h = record { fits = h; rows = refl; index = λ x. x }
 
-pub roomy-moved : (l m : List ℕ) (f n r : ℕ) → n < slots_in l → Gathered l m f n r 1 0 → Roomy l m f n 0
-roomy-moved l m f n r h g =
+pub roomy_moved : (l m : List ℕ) (f n r : ℕ) → n < slots_in l → Gathered l m f n r 1 0 → Roomy l m f n 0
+roomy_moved l m f n r h g =
     record {
       fits = omega arith;
       rows = ap (λ (y : ℕ). window_of m 0 y) (sym e) ∙ g.rows ∙ all_stay (window_of l f n);
@@ -35,6 +35,7 @@ roomy-moved l m f n r h g =
 -- ---- a row enters
 
 pub record Added (l m : List ℕ) (n r capacity time k : ℕ) : Type 0 where
+  pub size : length m ≡ length l
   pub ok : CacheOk m r
   pub rows : cache_of m r ≡ enter capacity time k (cache_of l n)
   pub index : Windowed l (first_of l n) n → Windowed m (first_of m r) r
@@ -74,6 +75,7 @@ module _ (l a b m : List ℕ) (n k left s f capacity : ℕ) (x : Held) (ok : Cac
   unfolding cache_of
   added =
       record {
+        size = len;
         ok = ok-still l m (left + 1) (max capacity 1) (ok-room l (max capacity 1) cap) len (omega arith);
         rows =
             ap (λ (y : ℕ). window_of m y (left + 1)) starts
@@ -88,10 +90,10 @@ module _ (l : List ℕ) (n capacity time k : ℕ) (kept : CacheKept l n) where
   pub inserted-none : CacheOk l n → present k (cache_of l n) ≡ true → Inserted l l n n capacity time k
   inserted-none ok t = record { size = refl; ok = ok; rows = rw t; kept = kept }
 
-  pub inserted-one : (m : List ℕ) (r : ℕ) → length m ≡ length l → present k (cache_of l n) ≡ false → Added l m n r capacity time k → Inserted l m n r capacity time k
-  inserted-one m r e t a =
+  pub inserted-one : (m : List ℕ) (r : ℕ) → present k (cache_of l n) ≡ false → Added l m n r capacity time k → Inserted l m n r capacity time k
+  inserted-one m r t a =
       record {
-        size = e;
+        size = a.size;
         ok = a.ok;
         rows = is;
         kept = record { index = a.index kept.index; once = rw is (remember-once capacity time k (cache_of l n) kept.once) };

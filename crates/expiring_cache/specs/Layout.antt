@@ -3,6 +3,7 @@
 -- Nothing outside of this file, `Index` and the proofs of the functions in rows.rt and links.rt unfolds a definition under "the words".
 use Rattle.std.specs.Prelude.{ℕ, zero, suc, ◌+◌, ◌-◌, ◌*◌, ◌/◌, ◌≤◌, ◌<◌, min, ◌≡◌, refl, List, [], ◌∷◌, ◌++◌, length, get_or, set, drop}
 use Rattle.std.proofs.Common.{ap, ◌∙◌, add-zero, arith, length-set, drop_at, get_or-set_same}
+use Rattle.std.specs.Coded.{le_prop}
 use Rattle.words.specs.Rows.{tab, length-tab, get_or-tab, tab-ext, tab-add}
 use Rattle.words.specs.Ids.{id_of, id_at}
 use Rattle.words.specs.Lists.{Once}
@@ -165,6 +166,11 @@ ok-room l n h = h
 pub room-ok : (l : List ℕ) (n : ℕ) → CacheOk l n → n ≤ cache_room l
 unfolding CacheOk
 room-ok l n h = h
+
+-- there is one proof at most: a struct keeps it
+pub ok-one : (l : List ℕ) (n : ℕ) → IsProp (CacheOk l n)
+unfolding CacheOk
+ok-one l n = le_prop
 
 -- room for n is room for fewer, in words that are as many
 pub ok-still : (l m : List ℕ) (k n : ℕ) → CacheOk l n → length m ≡ length l → k ≤ n → CacheOk m k

@@ -4,13 +4,13 @@ use Rattle.std.specs.Option.{MatchOption, is_some}
 use Prim.Native.Nat.{ℕ, zero, suc, ◌+◌, ◌-◌, ◌*◌, ◌^◌, ◌≤◌, ◌<◌}
 use Rattle.std.proofs.Math.Path.{◌≡◌, refl, ap}
 use Rattle.std.proofs.Common.{sym, ◌∙◌, arith}
-use Rattle.std.specs.Prelude.{Bool, length, ltb}
+use Rattle.std.specs.Prelude.{Bool, length}
 use Rattle.std.proofs.Math.Bool.{true, false}
 use mathlib.Core.List.{List, [], ◌∷◌}
 use Rattle.std.proofs.Math.Decide.{dec_lt, ℕ_discrete}
 use Rattle.std.proofs.Math.ListN.{get_or}
 use Rattle.std.proofs.Math.Dec.{eqb}
-use borrow.Author.Tests.{eqb-true, eqb-false, eq-eqb, ne_eqb, lt-ltb, le-ltb}
+use borrow.Author.Tests.{eqb-true, eqb-false, eq-eqb, ne_eqb}
 use Rattle.words.specs.Lists.{pick, count, Once}
 use Rattle.words.specs.Ids.{Words, id_of, id_at, id-inj, words_at}
 use Rattle.words.specs.Buckets.{bucket_of}
@@ -32,24 +32,24 @@ abbrev pub is_young : ℕ → ℕ → Option ℕ → Bool
 is_young ttl time (Some t) = young ttl time t
 is_young ttl time None = false
 
-pub since-present : (k : ℕ) (xs : List Held) → present k xs ≡ is_some (since_of k xs)
+pub since_present : (k : ℕ) (xs : List Held) → present k xs ≡ is_some (since_of k xs)
 unfolding since_of
-since-present k [] = refl
-since-present k (x ∷ xs) = go (eqb x.id k) (since-present k xs)
+since_present k [] = refl
+since_present k (x ∷ xs) = go (eqb x.id k) (since_present k xs)
   where
     go : (t : Bool) → present k xs ≡ is_some (since_of k xs) → pick t true (present k xs) ≡ is_some (pick t (Some x.since) (since_of k xs))
     go true h = refl
     go false h = h
 
 -- by what the code does with it
-pub young-of : (ttl time : ℕ) (b : Bool) (r : Option ℕ) → MatchOption r (b ≡ false) (λ t. b ≡ young ttl time t) → b ≡ is_young ttl time r
-young-of ttl time b None e = e
-young-of ttl time b (Some t) e = e
+pub young_of : (ttl time : ℕ) (b : Bool) (r : Option ℕ) → MatchOption r (b ≡ false) (λ t. b ≡ young ttl time t) → b ≡ is_young ttl time r
+young_of ttl time b None e = e
+young_of ttl time b (Some t) e = e
 
-pub since-held : (ttl time k : ℕ) (xs : List Held) → held ttl time k xs ≡ is_young ttl time (since_of k xs)
+pub since_held : (ttl time k : ℕ) (xs : List Held) → held ttl time k xs ≡ is_young ttl time (since_of k xs)
 unfolding since_of
-since-held ttl time k [] = refl
-since-held ttl time k (x ∷ xs) = go (eqb x.id k) (since-held ttl time k xs)
+since_held ttl time k [] = refl
+since_held ttl time k (x ∷ xs) = go (eqb x.id k) (since_held ttl time k xs)
   where
     go : (t : Bool) → held ttl time k xs ≡ is_young ttl time (since_of k xs) → pick t (young ttl time x.since) (held ttl time k xs) ≡ is_young ttl time (pick t (Some x.since) (since_of k xs))
     go true h = refl
@@ -77,55 +77,11 @@ module _ (k : ℕ) (d : Held) where
   since_none [] h = refl
   since_none (x ∷ xs) h = rw (h 0 (omega arith)) (since_none xs (λ i q. h (suc i) (omega arith)))
 
--- ---- the code's tests of a head's word x, and of a link's
+-- ---- the walk
 
-module _ (h : ℕ → ℕ) (n b w x : ℕ) (f : w ≡ x) where
-  pub head-zero : w ≡ 0 → 0 ≡ checked h n b x
-  unfolding checked
-  head-zero e = rw (← f, e)
-
-  pub head-far : n < w → 0 ≡ checked h n b x
-  unfolding checked
-  head-far q = rw (← f) (go w q)
-    where
-      go : (w : ℕ) → n < w → 0 ≡ checked h n b w
-      go zero q = refl
-      go (suc j) q = rw (le-ltb j n (omega arith))
-
-  pub head-out : (j y : ℕ) → w ≡ suc j → y ≡ h j → (y ≡ b → ⊥) → 0 ≡ checked h n b x
-  unfolding checked
-  head-out j y e g d = rw (← f, e, ne_eqb (h j) b (λ z. d (g ∙ z))) (none (ltb j n))
-    where
-      none : (t : Bool) → ◌≡◌ {A = ℕ} 0 (pick t 0 0)
-      none true = refl
-      none false = refl
-
-  pub head_in : (j y : ℕ) → w ≡ suc j → w ≤ n → y ≡ h j → y ≡ b → w ≡ checked h n b x
-  unfolding checked
-  head_in j y e q g d = rw (← f, e, lt-ltb j n (omega arith), eq-eqb (h j) b (sym g ∙ d))
-
--- a word less the window's start f
-module _ (l : List ℕ) (f w i : ℕ) where
-  pub head-word : w ≡ get_or l (i * 7 + 6) 0 - f → w ≡ head_at l i - f
-  unfolding head_at
-  head-word e = e
-
-  pub link-word : w ≡ get_or l (i * 7 + 5) 0 - f → w ≡ link_at l i - f
-  unfolding link_at
-  link-word e = e
-
-pub link-far : (i w x : ℕ) → w ≡ x → i < w → 0 ≡ bounded i x
-unfolding bounded
-link-far i w x f q = rw (← f, lt-ltb i w q)
-
-pub link_near : (i w x : ℕ) → w ≡ x → w ≤ i → w ≡ bounded i x
-unfolding bounded
-link_near i w x f q = rw (← f, le-ltb i w q)
-
+-- links go down
 pub link-less : (u i w v : ℕ) → u ≡ bounded i w → v ≡ suc i → u < v
 link-less u i w v e f = omega (arith, bounded-le i w)
-
--- ---- the walk
 
 -- each word is a word
 unfoldable pub AllWords : List ℕ → Type 0

@@ -5,33 +5,24 @@
 mod links;
 mod rows;
 
-ghost use Rattle.std.specs.Prelude.{◌≡◌, ◌+◌, ◌-◌, ◌≤◌, ◌<◌, max};
+ghost use Rattle.std.specs.Prelude.{◌≡◌, ◌+◌, ◌-◌, ◌≤◌, ◌<◌, max, length};
 ghost use Rattle.std.specs.List.{list_all, range_with_len};
 ghost use Rattle.words.specs.Ids.{id_of};
 ghost use Rattle.expiring_cache.specs.Cache.{young, present, held};
-ghost use Rattle.expiring_cache.specs.Layout.{slots_in, slot_at, cache_of, cache_room, CacheOk, CacheKept, Inserted, Pruned};
+ghost use Rattle.expiring_cache.specs.Layout.{slots_in, slot_at, first_of, cache_of, cache_room, CacheOk, ok-one, CacheKept, Inserted, Pruned};
 ghost use Rattle.expiring_cache.specs.Gathering.{Gathered};
 ghost use Rattle.expiring_cache.specs.Adding.{Roomy, Added};
 
-use crate::links::{get, push};
-use crate::rows::{Row, first_slot, load_row, put_first, row_since, slot_count};
+use crate::links::push;
+use crate::rows::{Row, load_row, put_first, row_since, slot_count};
 use words::ids::Id;
 
 // How many rows the words have room for: the other slots are slack, so that the window is moved at most once in as many insertions.
+#[tactic(auto, unfolding(crate::specs::Layout::cache_room))]
 pub fn cache_room(cache: &[u64]) -> usize
     ensures { result ≡ cache_room cache.now }
 {
     slot_count(cache) * 4 / 5
-}
-
-// ---- an id
-
-// Whether the id is present, expired or not.
-fn contains_key(cache: &[u64], n: usize, id: Id) -> bool
-    requires { CacheOk cache.now n }
-    ensures { CacheKept cache.now n → result ≡ present (id_of id) (cache_of cache.now n) }
-{
-    get(cache, n, id).is_some()
 }
 
 // Whether what was held from `since` on still is.
@@ -41,12 +32,47 @@ fn is_fresh(since: u64, ttl: u64, time: u64) -> bool
     time.saturating_sub(since) < ttl
 }
 
-// Whether the id is held at this time.
-pub fn contains(cache: &[u64], n: usize, ttl: u64, time: u64, id: Id) -> bool
-    requires { CacheOk cache.now n }
-    ensures { CacheKept cache.now n → result ≡ held ttl time (id_of id) (cache_of cache.now n) }
-{
-    get(cache, n, id).is_some_and(|since| is_fresh(since, ttl, time))
+// ---- the cache, lent to be read
+
+#[derive(Clone, Copy)]
+pub struct ExpiringCache<'a> {
+    words: &'a [u64],
+    rows: usize,
+    ghost fits: { CacheOk words.now rows } by { ok-one words.now rows },
+}
+
+impl<'a> ExpiringCache<'a> {
+    pub fn new(words: &'a [u64], rows: usize) -> ExpiringCache<'a>
+        requires { CacheOk words.now rows }
+        ensures { (result.words.now ≡ words.now) × (result.rows ≡ rows) }
+    {
+        ExpiringCache { words, rows }
+    }
+
+    // Whether the id is present, expired or not.
+    #[tactic(auto, using(crate::specs::Seeking::since_present))]
+    fn has(&self, id: Id) -> bool
+        ensures { CacheKept self.now.words.now self.now.rows → result ≡ present (id_of id) (cache_of self.now.words.now self.now.rows) }
+    {
+        self.since(id).is_some()
+    }
+
+    // Whether the id is held at this time.
+    #[tactic(auto, using(crate::specs::Seeking::since_held, crate::specs::Seeking::young_of))]
+    pub fn contains(&self, ttl: u64, time: u64, id: Id) -> bool
+        ensures { CacheKept self.now.words.now self.now.rows → result ≡ held ttl time (id_of id) (cache_of self.now.words.now self.now.rows) }
+    {
+        self.since(id)
+            .is_some_and(|since| is_fresh(since, ttl, time))
+    }
+
+    // Whether all rows are held at this time.
+    fn all_fresh(&self, ttl: u64, time: u64) -> bool
+        ensures { result ≡ list_all (λ i. young ttl time (slot_at self.now.words.now (first_of self.now.words.now self.now.rows + i)).since) (range_with_len 0 self.now.rows) }
+    {
+        let first = self.first_slot();
+        (0..self.rows).all(|i| is_fresh(row_since(self.words, first + i), ttl, time))
+    }
 }
 
 // ---- the window is moved to the front
@@ -79,8 +105,6 @@ fn make_room(cache: &mut [u64], first: usize, n: usize) -> usize
     0
 }
 
-// ---- an id enters
-
 // How many of n rows must go so that one more is within the capacity, which is at least 1.
 fn excess(n: usize, capacity: usize) -> usize
     ensures { result ≡ n + 1 - max capacity 1 }
@@ -88,57 +112,81 @@ fn excess(n: usize, capacity: usize) -> usize
     n.saturating_sub(capacity.saturating_sub(1))
 }
 
-// Puts an id that is not there behind the n rows; the oldest go where the cache is full.
-fn add(cache: &mut [u64], n: usize, capacity: usize, time: u64, id: Id) -> usize
-    requires cache_ok { CacheOk cache.old n }
-    requires capacity_bound { max capacity 1 ≤ cache_room cache.old }
-    ensures { Added cache.old cache.new n result capacity time (id_of id) }
-{
-    let k = excess(n, capacity);
-    let left = n - k;
-    let first = make_room(cache, first_slot(cache, n) + k, left);
-    push(cache, first, left, Row { id, since: time });
-    put_first(cache, first);
-    left + 1
+// ---- the cache, lent to be changed
+
+// A method that writes says that the words are still the same ones, `same_reference`: by that a caller knows what its own words become.
+#[derive(Drop)]
+pub struct ExpiringCacheMut<'a> {
+    words: &'a mut [u64],
+    rows: usize,
+    ghost fits: { CacheOk words.now rows } by { ok-one words.now rows },
 }
 
-// Holds the id from this time on, unless it is present, expired or not. Returns how many rows there are then.
-pub fn insert(cache: &mut [u64], n: usize, capacity: usize, time: u64, id: Id) -> usize
-    requires cache_ok { CacheOk cache.old n }
-    requires capacity_bound { max capacity 1 ≤ cache_room cache.old }
-    ensures cache_ok_2 { CacheOk cache.new result }
-    ensures inserted { CacheKept cache.old n → Inserted cache.old cache.new n result capacity time (id_of id) }
-{
-    if contains_key(cache, n, id) {
-        return n;
+impl<'a> ExpiringCacheMut<'a> {
+    pub fn new(words: &'a mut [u64], rows: usize) -> ExpiringCacheMut<'a>
+        requires { CacheOk words.old rows }
+        ensures words { (result.words.now ≡ words.old) × (result.rows ≡ rows) }
+        ensures same_reference { result.words.ghost_name ≡ words.entry.ghost_name }
+    {
+        ExpiringCacheMut { words, rows }
     }
-    add(cache, n, capacity, time, id)
-}
 
-// ---- what expired leaves
-
-// Whether all of n rows from slot `first` on are held at this time.
-fn all_fresh(cache: &[u64], first: usize, n: usize, ttl: u64, time: u64) -> bool
-    requires { first + n ≤ slots_in cache.now }
-    ensures { result ≡ list_all (λ i. young ttl time (slot_at cache.now (first + i)).since) (range_with_len 0 n) }
-{
-    (0..n).all(|i| is_fresh(row_since(cache, first + i), ttl, time))
-}
-
-// Keeps, in order, the rows that are held at this time, and returns how many they are. Where all are, no word changes.
-pub fn prune(cache: &mut [u64], n: usize, ttl: u64, time: u64) -> usize
-    requires { CacheOk cache.old n }
-    ensures upper_bound { result ≤ n }
-    ensures pruned { CacheKept cache.old n → Pruned cache.old cache.new n result ttl time }
-{
-    if n == 0 {
-        return 0;
+    pub fn cache(&self) -> ExpiringCache<'_>
+        ensures { (result.words.now ≡ self.now.words.now) × (result.rows ≡ self.now.rows) }
+    {
+        ExpiringCache::new(self.words, self.rows)
     }
-    let first = first_slot(cache, n);
-    if all_fresh(cache, first, n, ttl, time) {
-        return n;
+
+    // How many rows there are, expired or not.
+    pub fn len(&self) -> usize
+        ensures { result ≡ self.now.rows }
+    {
+        self.rows
     }
-    let left = gather(cache, first, n, ttl, time);
-    put_first(cache, 0);
-    left
+
+    // Puts an id that is not there behind the rows; the oldest go where the cache is full.
+    #[tactic(auto, unfolding(crate::specs::Layout::CacheOk, crate::specs::Layout::cache_room))]
+    fn add(&mut self, capacity: usize, time: u64, id: Id)
+        requires { max capacity 1 ≤ cache_room self.old.words.now }
+        ensures added { Added self.old.words.now self.new.words.now self.old.rows self.new.rows capacity time (id_of id) }
+        ensures same_reference { self.new.words.ghost_name ≡ self.old.words.ghost_name }
+    {
+        let n = self.rows;
+        let k = excess(n, capacity);
+        let from = self.cache().first_slot() + k;
+        let first = make_room(self.words, from, n - k);
+        push(self.words, first, n - k, Row { id, since: time });
+        put_first(self.words, first);
+        self.rows = n - k + 1;
+    }
+
+    // Holds the id from this time on, unless it is present, expired or not.
+    pub fn insert(&mut self, capacity: usize, time: u64, id: Id)
+        requires { max capacity 1 ≤ cache_room self.old.words.now }
+        ensures inserted { CacheKept self.old.words.now self.old.rows → Inserted self.old.words.now self.new.words.now self.old.rows self.new.rows capacity time (id_of id) }
+        ensures same_length { length self.new.words.now ≡ length self.old.words.now }
+        ensures same_reference { self.new.words.ghost_name ≡ self.old.words.ghost_name }
+    {
+        if self.cache().has(id) {
+            return;
+        }
+        self.add(capacity, time, id);
+    }
+
+    // Keeps, in order, the rows that are held at this time. Where all are, no word changes.
+    #[tactic(auto, unfolding(crate::specs::Layout::CacheOk, crate::specs::Layout::cache_room))]
+    pub fn prune(&mut self, ttl: u64, time: u64)
+        ensures upper_bound { self.new.rows ≤ self.old.rows }
+        ensures pruned { CacheKept self.old.words.now self.old.rows → Pruned self.old.words.now self.new.words.now self.old.rows self.new.rows ttl time }
+        ensures same_length { length self.new.words.now ≡ length self.old.words.now }
+        ensures same_reference { self.new.words.ghost_name ≡ self.old.words.ghost_name }
+    {
+        if self.cache().all_fresh(ttl, time) {
+            return;
+        }
+        let first = self.cache().first_slot();
+        let n = self.rows;
+        self.rows = gather(self.words, first, n, ttl, time);
+        put_first(self.words, 0);
+    }
 }

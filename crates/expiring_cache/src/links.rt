@@ -4,20 +4,21 @@
 // to clear, and so is a link that does not go down, so that a walk ends.
 ghost use Rattle.std.specs.Prelude.{◌≡◌, ℕ, ◌+◌, ◌-◌, ◌≤◌, ◌<◌};
 ghost use Rattle.words.specs.Buckets.{bucket_of};
-ghost use Rattle.words.specs.Chains.{checked, bounded};
+ghost use Rattle.words.specs.Chains.{name_of, checked, bounded};
 ghost use Rattle.words.specs.Ids.{id_of};
-ghost use Rattle.expiring_cache.specs.Layout.{slots_in, held_of, key_in, hash_at, link_at, head_at, CacheOk, CacheKept, cache_of};
+ghost use Rattle.expiring_cache.specs.Layout.{slots_in, held_of, key_in, hash_at, link_at, head_at, first_of, CacheKept, cache_of};
 ghost use Rattle.expiring_cache.specs.Index.{linked_in};
 ghost use Rattle.expiring_cache.specs.Entering.{Pushed};
 ghost use Rattle.expiring_cache.specs.Seeking.{since_of};
 
-use crate::rows::{
-    HEAD, LINK, Row, SLOT_WORDS, first_slot, row_id, row_since, slot_count, store_row,
-};
+use crate::ExpiringCache;
+use crate::rows::{HEAD, LINK, Row, SLOT_WORDS, row_id, row_since, slot_count, store_row};
 use words::buckets::bucket_of;
+use words::chains::{name_of, named};
 use words::ids::Id;
 
 // The bucket of ids whose last word is `d`.
+#[tactic(auto, unfolding(crate::specs::Layout::key_in))]
 fn bucket(cache: &[u64], d: u64) -> usize
     requires { 0 < slots_in cache.now }
     ensures { (result ≡ bucket_of d (key_in cache.now) (slots_in cache.now)) × (result < slots_in cache.now) }
@@ -27,6 +28,7 @@ fn bucket(cache: &[u64], d: u64) -> usize
 }
 
 // The bucket of the id in slot `i`.
+#[tactic(auto, unfolding(crate::specs::Layout::hash_at))]
 fn bucket_at(cache: &[u64], i: usize) -> usize
     requires { i < slots_in cache.now }
     ensures { (result ≡ hash_at cache.now i) × (result < slots_in cache.now) }
@@ -34,35 +36,24 @@ fn bucket_at(cache: &[u64], i: usize) -> usize
     bucket(cache, cache[i * SLOT_WORDS + 3])
 }
 
-// One more than the place of the newest of n rows from slot `first` on that is in bucket `b`, or 0: a number, as heads and links are stored, since
-// `link_in` writes it as it is.
-fn head(cache: &[u64], first: usize, n: usize, b: usize) -> usize
+// The place of the newest of n rows from slot `first` on that is in bucket `b`.
+#[tactic(auto, unfolding(crate::specs::Layout::head_at, words::specs::Chains::checked))]
+fn head(cache: &[u64], first: usize, n: usize, b: usize) -> Option<usize>
     requires { (first + n ≤ slots_in cache.now) × (b < slots_in cache.now) }
-    ensures { result ≡ checked (λ (i : ℕ). hash_at cache.now (first + i)) n b (head_at cache.now b - first) }
+    ensures { name_of result ≡ checked (λ (i : ℕ). hash_at cache.now (first + i)) n b (head_at cache.now b - first) }
 {
-    let w = (cache[b * SLOT_WORDS + HEAD] as usize).saturating_sub(first);
-    if w == 0 {
-        return 0;
-    }
-    if n < w {
-        return 0;
-    }
-    if bucket_at(cache, first + (w - 1)) != b {
-        return 0;
-    }
-    w
+    let word = cache[b * SLOT_WORDS + HEAD].saturating_sub(first as u64);
+    named(word).filter(|i| *i < n && bucket_at(cache, first + *i) == b)
 }
 
-// One more than the place of the row that the row at place `i` links to, or 0, as the words have it.
-fn link(cache: &[u64], first: usize, i: usize) -> usize
+// The place of the row that the row at place `i` links to.
+#[tactic(auto, unfolding(crate::specs::Layout::link_at, words::specs::Chains::bounded))]
+fn link(cache: &[u64], first: usize, i: usize) -> Option<usize>
     requires { first + i < slots_in cache.now }
-    ensures { result ≡ bounded i (link_at cache.now (first + i) - first) }
+    ensures { name_of result ≡ bounded i (link_at cache.now (first + i) - first) }
 {
-    let w = (cache[(first + i) * SLOT_WORDS + LINK] as usize).saturating_sub(first);
-    if i < w {
-        return 0;
-    }
-    w
+    let word = cache[(first + i) * SLOT_WORDS + LINK].saturating_sub(first as u64);
+    named(word).filter(|older| *older < i)
 }
 
 // The row at place n is linked in at the head of its bucket.
@@ -71,9 +62,9 @@ fn link_in(cache: &mut [u64], first: usize, n: usize)
     ensures { cache.new ≡ linked_in cache.old first n }
 {
     let b = bucket_at(cache, first + n);
-    let h = head(cache, first, n, b);
-    cache[(first + n) * SLOT_WORDS + LINK] = (first + h) as u64;
-    cache[b * SLOT_WORDS + HEAD] = (first + n + 1) as u64;
+    let older = name_of(head(cache, first, n, b));
+    cache[(first + n) * SLOT_WORDS + LINK] = first as u64 + older;
+    cache[b * SLOT_WORDS + HEAD] = name_of(Some(first + n));
 }
 
 // Puts a row behind n rows, which stand from slot `first` on, and at the head of its bucket.
@@ -85,23 +76,31 @@ pub(crate) fn push(cache: &mut [u64], first: usize, n: usize, x: Row)
     link_in(cache, first, n);
 }
 
-// The time that the row with this id has.
-pub(crate) fn get(cache: &[u64], n: usize, id: Id) -> Option<u64>
-    requires { CacheOk cache.now n }
+// The time that the row with this id has, of n rows from slot `first` on. No method: of words behind `self` the loop's proof does not learn that
+// they fit 64 bits.
+fn seek(cache: &[u64], first: usize, n: usize, id: Id) -> Option<u64>
+    requires starts { first ≡ first_of cache.now n }
+    requires inside { first + n ≤ slots_in cache.now }
     ensures { CacheKept cache.now n → result ≡ since_of (id_of id) (cache_of cache.now n) }
 {
     if n == 0 {
         return None;
     }
-    let first = first_slot(cache, n);
-    let mut v = head(cache, first, n, bucket(cache, id.d));
-    // A walk from link to link, which no list holds: no iterator is plainer.
-    while v != 0 {
-        let i = v - 1;
+    let mut next = head(cache, first, n, bucket(cache, id.d));
+    while let Some(i) = next {
         if row_id(cache, first + i) == id {
             return Some(row_since(cache, first + i));
         }
-        v = link(cache, first, i);
+        next = link(cache, first, i);
     }
     None
+}
+
+impl ExpiringCache<'_> {
+    // The time that the row with this id has.
+    pub(crate) fn since(&self, id: Id) -> Option<u64>
+        ensures { CacheKept self.now.words.now self.now.rows → result ≡ since_of (id_of id) (cache_of self.now.words.now self.now.rows) }
+    {
+        seek(self.words, self.first_slot(), self.rows, id)
+    }
 }

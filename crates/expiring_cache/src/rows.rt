@@ -6,6 +6,7 @@ ghost use Rattle.words.specs.Ids.{id_of};
 ghost use Rattle.words.specs.Rows.{stored};
 ghost use Rattle.expiring_cache.specs.Layout.{slots_in, row_words, held_of, slot_at, first_of};
 
+use crate::ExpiringCache;
 use words::ids::{Id, get_id, put_id};
 
 // The words of a slot.
@@ -33,6 +34,7 @@ pub(crate) fn slot_count(cache: &[u64]) -> usize
 }
 
 // The id in slot `i`.
+#[tactic(auto, unfolding(crate::specs::Layout::slot_at))]
 pub(crate) fn row_id(cache: &[u64], i: usize) -> Id
     requires { i < slots_in cache.now }
     ensures { id_of result ≡ (slot_at cache.now i).id }
@@ -41,6 +43,7 @@ pub(crate) fn row_id(cache: &[u64], i: usize) -> Id
 }
 
 // The time in slot `i`.
+#[tactic(auto, unfolding(crate::specs::Layout::slot_at))]
 pub(crate) fn row_since(cache: &[u64], i: usize) -> u64
     requires { i < slots_in cache.now }
     ensures { result ≡ (slot_at cache.now i).since }
@@ -48,7 +51,8 @@ pub(crate) fn row_since(cache: &[u64], i: usize) -> u64
     cache[i * SLOT_WORDS + SINCE]
 }
 
-// The row in slot `i`.
+// The row in slot `i`. No `From`: its words stand among the table's.
+#[tactic(auto, unfolding(crate::specs::Layout::held_of))]
 pub(crate) fn load_row(cache: &[u64], i: usize) -> Row
     requires { i < slots_in cache.now }
     ensures { held_of result ≡ slot_at cache.now i }
@@ -68,16 +72,18 @@ pub(crate) fn store_row(cache: &mut [u64], i: usize, x: Row)
     cache[i * SLOT_WORDS + SINCE] = x.since;
 }
 
-// The first slot of the window of n rows. The word may be anything, in words that no start left; a window of no rows starts at the front.
-pub(crate) fn first_slot(cache: &[u64], n: usize) -> usize
-    requires { n ≤ slots_in cache.now }
-    ensures { result ≡ first_of cache.now n }
-{
-    if n == 0 {
-        return 0;
+impl ExpiringCache<'_> {
+    // The first slot of the window. The word may be anything, in words that no start left; a window of no rows starts at the front.
+    #[tactic(auto, unfolding(crate::specs::Layout::CacheOk, crate::specs::Layout::cache_room))]
+    pub(crate) fn first_slot(&self) -> usize
+        ensures { (result ≡ first_of self.now.words.now self.now.rows) × (result + self.now.rows ≤ slots_in self.now.words.now) }
+    {
+        if self.rows == 0 {
+            return 0;
+        }
+        let slots = slot_count(self.words);
+        (self.words[slots * SLOT_WORDS] as usize).min(slots - self.rows)
     }
-    let slots = slot_count(cache);
-    (cache[slots * SLOT_WORDS] as usize).min(slots - n)
 }
 
 // The window starts at slot `f`.

@@ -2,7 +2,8 @@
 -- links go down. Assumes nothing.
 use borrow.Author.Rules.{rules}
 use Rattle.std.proofs.Common.{ap, arith}
-use Rattle.boxes.specs.Index.{name_of, AllWords}
+use Rattle.words.specs.Chains.{name_of}
+use Rattle.boxes.specs.Index.{AllWords}
 use Rattle.boxes.specs.Searching.{link-less}
 use Rattle.boxes.specs.Hiding.{hides-first, hides-next}
 use Rattle.boxes.proofs.records.hide_all.Goals as goal

@@ -1,4 +1,4 @@
-use Rattle.boxes.specs.Index.{name_of}
+use Rattle.words.specs.Chains.{name_of}
 use Rattle.boxes.specs.Leaving.{Leaves}
 use Rattle.boxes.proofs.records.leave_all.Given as goal
 

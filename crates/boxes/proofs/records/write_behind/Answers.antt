@@ -5,4 +5,4 @@ use Rattle.boxes.specs.Writing.{wrote-lent}
 use Rattle.boxes.proofs.records.write_behind.Goals as goal
 
 pub returns : goal.returns
-returns c = wrote-lent c.args.s.now c.write_records.new.free c.args.used (id_of c.args.owner) c.args.in_width c.args.inputs.now c.args.out_width c.args.outputs.now (omega (arith, c.requires.outputs_bound)) c.write_records.ensures
+returns c = wrote-lent c.args.s.now c.write_records.new.free c.args.used (id_of c.args.owner) c.args.lists.now.inputs.width c.args.lists.now.inputs.words.now c.args.lists.now.outputs.width c.args.lists.now.outputs.words.now (omega (arith, c.requires)) c.write_records.ensures

@@ -8,4 +8,4 @@ pub returns : goal.returns
 returns c =
     let l = c.args.s.now in
     let kind = ap kind_number c.kind_at-kind.ensures in
-    subst (Put _ _ _) (read_kind l c.args.from c.column_id-key.ensures c.column_id-owner.ensures kind) c.put_words.ensures
+    subst (Put _ _ _) (read_kind l c.args.from c.column_id-key.ensures c.column_id-owner.ensures kind) c.put_slot.ensures

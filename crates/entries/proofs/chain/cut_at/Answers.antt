@@ -2,7 +2,8 @@
 -- down. Assumes nothing.
 use Rattle.std.proofs.Common.{arith, ap, refl}
 use Rattle.entries.specs.Splice.{link-less}
-use Rattle.entries.specs.Index.{name_of, cuts_first, cuts-next}
+use Rattle.words.specs.Chains.{name_of}
+use Rattle.entries.specs.Index.{cuts_first, cuts-next}
 use Rattle.entries.proofs.chain.cut_at.Goals as goal
 
 pub loop-below-init : goal.loop-below-init
@@ -14,9 +15,3 @@ loop-below-smaller c = link-less _ _ _ _ c.link-below.ensures (ap name_of c.in-S
 pub loop-below-preserved : goal.loop-below-preserved
 loop-below-preserved c =
     cuts-next c.args.s.now c.args.u c.args.b c.args.i _ _ c.in-Some.j _ c.requires.1 (rw c.in-Some.is at c.loop-below.invariant) refl (omega arith) c.link-below.ensures
-
-pub returns-then-j-i : goal.returns-then-j-i
-returns-then-j-i c = record { cut = rw c.in-Some.is at c.loop-below.invariant; below = omega arith }
-
-pub returns-in_default : goal.returns-in_default
-returns-in_default c = let none = ap name_of c.in_default.is in record { cut = c.loop-below.invariant; below = omega (arith, none) }

@@ -1,4 +1,5 @@
-use Rattle.entries.specs.Index.{Cuts, name_of}
+use Rattle.words.specs.Chains.{name_of}
+use Rattle.entries.specs.Index.{Cuts}
 use Rattle.entries.proofs.chain.cut_at.Given as goal
 
 abbrev pub invariant-loop-below : goal.invariant-loop-below

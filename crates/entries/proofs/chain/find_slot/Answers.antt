@@ -4,7 +4,8 @@ use Rattle.std.proofs.lemmas.Bool.{eqb-false}
 use Rattle.words.specs.Ids.{id_of}
 use Rattle.entries.specs.Splice.{link-less}
 use Rattle.entries.specs.Cells.{AllWords}
-use Rattle.entries.specs.Index.{name_of, seeks-first, seeks-hit, seeks-next, seeks-end, no_slot}
+use Rattle.words.specs.Chains.{name_of}
+use Rattle.entries.specs.Index.{seeks-first, seeks-hit, seeks-next, seeks-end, no_slot}
 use Rattle.entries.proofs.chain.find_slot.Goals as goal
 
 pub returns-then-u-eq0 : goal.returns-then-u-eq0

@@ -1,4 +1,5 @@
-use Rattle.entries.specs.Index.{Seeks, name_of}
+use Rattle.words.specs.Chains.{name_of}
+use Rattle.entries.specs.Index.{Seeks}
 use Rattle.entries.proofs.chain.find_slot.Given as goal
 
 abbrev pub invariant-loop-next : goal.invariant-loop-next

@@ -1,8 +1,0 @@
--- `table::is_pooled` meets its contract, from what `find_slot` ensures (`slot-told`). Assumes nothing.
-use Rattle.std.proofs.Common.{◌∙◌}
-use Rattle.words.specs.Ids.{id_of}
-use Rattle.entries.specs.Changing.{slot-told}
-use Rattle.entries.proofs.table.is_pooled.Goals as goal
-
-pub returns : goal.returns
-returns c k = c.is_some.ensures ∙ slot-told c.args.s.now _ c.args.n (id_of c.args.id) c.known.ensures.0 _ c.find_slot.ensures k
