@@ -48,8 +48,8 @@ module _ (l : List ℕ) (k : ℕ) where
           ∙ drop-set-lt (count_of 4 l * 4) _ (k * 4 + 1) b (omega arith)
           ∙ drop-set-lt (count_of 4 l * 4) l (k * 4) a (omega arith)
 
-  pub wrote-nowhere : (x : ℕ) → count_of 4 l ≤ k → Wrote l l k (x ∷ [])
-  wrote-nowhere x h = record { kept = refl; ids = sym (set_out (ids_of 4 l) k x (omega (arith, (ids 4).len l (count_of 4 l)))); rest = refl }
+  pub wrote_nowhere : (x : ℕ) → count_of 4 l ≤ k → Wrote l l k (x ∷ [])
+  wrote_nowhere x h = record { kept = refl; ids = sym (set_out (ids_of 4 l) k x (omega (arith, (ids 4).len l (count_of 4 l)))); rest = refl }
 
 pub wrote_nothing : (l : List ℕ) (at : ℕ) → Wrote l l at []
 wrote_nothing l at = record { kept = refl; ids = refl; rest = refl }

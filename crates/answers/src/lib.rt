@@ -4,10 +4,11 @@
 ghost use Rattle.std.specs.Prelude.{◌≡◌, ◌∷◌, [], ◌+◌, ◌≤◌};
 ghost use Rattle.words.specs.Ids.{id_of};
 ghost use Rattle.words.specs.Sums.{cap};
-ghost use Rattle.boxes.specs.Flat.{count_of, ids_to};
+ghost use Rattle.boxes.specs.Flat.{count_of};
+ghost use Rattle.boxes.specs.Views.{count_in, ids_in};
 ghost use Rattle.answers.specs.Answers.{Wrote};
 
-use boxes::lists::id_at;
+use boxes::lists::Ids;
 use words::ids::{Id, put_id};
 
 // How many ids a buffer has places for.
@@ -18,6 +19,7 @@ pub fn places(answer: &[u64]) -> usize
 }
 
 // Writes an id at place `k`, where the buffer has that place.
+#[tactic(auto, using(crate::specs::Answers::wrote_one, crate::specs::Answers::wrote_nowhere))]
 pub fn write_id(answer: &mut [u64], k: usize, id: Id)
     ensures { Wrote answer.old answer.new k (id_of id ∷ []) }
 {
@@ -26,12 +28,12 @@ pub fn write_id(answer: &mut [u64], k: usize, id: Id)
     }
 }
 
-// Writes the first `n` ids of a list from place `at` on.
-pub fn write_ids(answer: &mut [u64], at: usize, list: &[u64], n: usize)
-    requires { (n ≤ count_of 4 list.now) × (at + n ≤ cap) }
-    ensures { Wrote answer.old answer.new at (ids_to 4 list.now n) }
+// Writes the ids of a list from place `at` on.
+pub fn write_ids(answer: &mut [u64], at: usize, list: &Ids<'_>)
+    requires { at + count_in list.now ≤ cap }
+    ensures { Wrote answer.old answer.new at (ids_in list.now) }
 {
-    for i in 0..n {
-        write_id(answer, at + i, id_at(list, 4, i));
+    for i in 0..list.len() {
+        write_id(answer, at + i, list.id_at(i));
     }
 }

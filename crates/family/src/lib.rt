@@ -2,18 +2,17 @@
 // others, once for every chain of spends.
 #![tactic(auto)]
 
-ghost use Rattle.std.specs.Prelude.{◌+◌, ◌≤◌, ◌<◌, length};
+ghost use Rattle.std.specs.Prelude.{◌≡◌, ◌+◌, ◌≤◌, ◌<◌, length};
 ghost use Rattle.words.specs.Ids.{id_of};
 ghost use Rattle.entries.specs.Layout.{EntriesKept};
 ghost use Rattle.boxes.specs.Layout.{all_rows};
-ghost use Rattle.pool.specs.Pool.{PoolFits, PoolKept, Left, tables_of};
+ghost use Rattle.pool.specs.Lent.{Same, KeptIn, LeftIn, tables_in};
 ghost use Rattle.family.specs.Frames.{todo_of};
 ghost use Rattle.family.specs.Steps.{Visited, Nearer, Turned};
 ghost use Rattle.family.specs.Family.{propagated};
 
-use entries::table::credit_entry;
 use indexes::inputs::last_parent;
-use pool_types::Counts;
+use pool::lent::PoolMut;
 use words::ids::Id;
 
 // At most so many parents are visited.
@@ -48,41 +47,34 @@ struct Progress {
 
 // Credits a parent and opens a frame for it on top, above what is left of its child's. No slot is at an index past the words.
 fn visit(
-    entries: &mut [u64],
-    boxes: &[u64],
-    counts: Counts,
+    pool: &mut PoolMut<'_>,
     frames: &mut [Frame],
     depth: usize,
     child: Frame,
     parent: Id,
     amount: u64,
 )
-    requires pool_fits { PoolFits entries.old boxes.now counts }
-    requires depth_nonzero { (0 < depth) × (depth + 1 ≤ length frames.old) }
-    ensures { EntriesKept entries.old counts.pooled → Visited entries.old entries.new frames.old frames.new (length boxes.now) counts.pooled depth amount (id_of parent) (todo_of child) }
+    requires { (0 < depth) × (depth + 1 ≤ length frames.old) }
+    ensures same { Same pool.old pool.new }
+    ensures others { (pool.new.boxes.now ≡ pool.old.boxes.now) × (pool.new.counts ≡ pool.old.counts) }
+    ensures visited { EntriesKept pool.old.entries.now pool.old.counts.pooled → Visited pool.old.entries.now pool.new.entries.now frames.old frames.new (length pool.old.boxes.now) pool.old.counts.pooled depth amount (id_of parent) (todo_of child) }
 {
-    credit_entry(entries, counts.pooled, parent, amount);
-    let bound = boxes.len();
+    pool.credit(parent, amount);
+    let bound = pool.boxes().end();
     frames[depth - 1] = child;
     frames[depth] = Frame { id: parent, bound };
 }
 
 // Looks at the top frame: visits the last parent that its inputs have left, or closes it where there is none. With no visit left the walk ends.
-fn turn(
-    entries: &mut [u64],
-    boxes: &[u64],
-    counts: Counts,
-    frames: &mut [Frame],
-    w: Progress,
-    amount: u64,
-) -> Progress
-    requires pool_fits { PoolFits entries.old boxes.now counts }
-    requires depth_nonzero { (0 < w.depth) × (w.depth + w.budget ≤ length frames.old) }
+fn turn(pool: &mut PoolMut<'_>, frames: &mut [Frame], w: Progress, amount: u64) -> Progress
+    requires { (0 < w.depth) × (w.depth + w.budget ≤ length frames.old) }
     ensures nearer { Nearer w result }
-    ensures turned { PoolKept entries.old boxes.now counts → Turned entries.old entries.new frames.old frames.new (all_rows boxes.now counts.records) counts.pooled amount w result }
+    ensures same { Same pool.old pool.new }
+    ensures others { (pool.new.boxes.now ≡ pool.old.boxes.now) × (pool.new.counts ≡ pool.old.counts) }
+    ensures turned { KeptIn pool.old → Turned pool.old.entries.now pool.new.entries.now frames.old frames.new (all_rows pool.old.boxes.now pool.old.counts.records) pool.old.counts.pooled amount w result }
 {
     let top = frames[w.depth - 1];
-    match last_parent(boxes, counts.records, top.id, top.bound) {
+    match last_parent(&pool.boxes(), top.id, top.bound) {
         None => Progress {
             depth: w.depth - 1,
             budget: w.budget,
@@ -95,9 +87,7 @@ fn turn(
                 };
             }
             visit(
-                entries,
-                boxes,
-                counts,
+                pool,
                 frames,
                 w.depth,
                 Frame {
@@ -116,20 +106,13 @@ fn turn(
 }
 
 // The walk from a transaction with at most `cap` visits. Each opens one frame, so that `cap` and one frames are enough.
-fn walk(
-    entries: &mut [u64],
-    boxes: &[u64],
-    counts: Counts,
-    frames: &mut [Frame],
-    id: Id,
-    amount: u64,
-    cap: usize,
-)
-    requires pool_fits { PoolFits entries.old boxes.now counts }
-    requires frames_ok { 1 + cap ≤ length frames.old }
-    ensures { PoolKept entries.old boxes.now counts → Left entries.new boxes.now counts (propagated cap amount (id_of id) (tables_of entries.old boxes.now counts)) }
+fn walk(pool: &mut PoolMut<'_>, frames: &mut [Frame], id: Id, amount: u64, cap: usize)
+    requires { 1 + cap ≤ length frames.old }
+    ensures same { Same pool.old pool.new }
+    ensures others { (pool.new.boxes.now ≡ pool.old.boxes.now) × (pool.new.counts ≡ pool.old.counts) }
+    ensures left { KeptIn pool.old → LeftIn pool.new (propagated cap amount (id_of id) (tables_in pool.old)) }
 {
-    let bound = boxes.len();
+    let bound = pool.boxes().end();
     frames[0] = Frame { id, bound };
     let mut w = Progress {
         depth: 1,
@@ -137,29 +120,17 @@ fn walk(
     };
     // until the stack is empty: no index is counted
     while 0 < w.depth {
-        w = turn(entries, boxes, counts, frames, w, amount);
+        w = turn(pool, frames, w, amount);
     }
 }
 
 // Propagates a newcomer's base to its ancestors in the pool. It has entered before, so that one that spends its own output credits itself.
-pub fn propagate_family_weight(
-    entries: &mut [u64],
-    boxes: &[u64],
-    counts: Counts,
-    id: Id,
-    amount: u64,
-)
-    requires { PoolFits entries.old boxes.now counts }
-    ensures { PoolKept entries.old boxes.now counts → Left entries.new boxes.now counts (propagated 500 amount (id_of id) (tables_of entries.old boxes.now counts)) }
+pub fn propagate_family_weight(pool: &mut PoolMut<'_>, id: Id, amount: u64)
+    ensures same { Same pool.old pool.new }
+    ensures others { (pool.new.boxes.now ≡ pool.old.boxes.now) × (pool.new.counts ≡ pool.old.counts) }
+    ensures left { KeptIn pool.old → LeftIn pool.new (propagated 500 amount (id_of id) (tables_in pool.old)) }
 {
+    // no heap: the stack is as large as a walk can need
     let mut frames = [EMPTY; STACK];
-    walk(
-        entries,
-        boxes,
-        counts,
-        &mut frames,
-        id,
-        amount,
-        MAX_PARENT_SCAN_DEPTH,
-    );
+    walk(pool, &mut frames, id, amount, MAX_PARENT_SCAN_DEPTH);
 }

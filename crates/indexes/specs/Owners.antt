@@ -14,6 +14,6 @@ abbrev pub is_found : List ℕ → Bool
 is_found [] = false
 is_found (k ∷ ks) = true
 
-pub found-is : (o : Option Id) {ks : List ℕ} → owner_ids o ≡ ks → is_some o ≡ is_found ks
-found-is None e = ap is_found e
-found-is (Some x) e = ap is_found e
+pub found_is : (o : Option Id) {ks : List ℕ} → owner_ids o ≡ ks → is_some o ≡ is_found ks
+found_is None e = ap is_found e
+found_is (Some x) e = ap is_found e

@@ -2,7 +2,7 @@
 -- producer index"; and of an answer: "an input found nowhere".
 use Rattle.std.specs.Prelude.{None, Option, Some}
 use Rattle.std.specs.Prelude.{ℕ, ◌+◌, ◌*◌, ◌/◌, ◌≤◌, ◌<◌, ◌≡◌, refl, Bool, true, false, ◌&&◌, ◌||◌, List, [], ◌∷◌, ◌++◌, length, get_or, take, drop}
-use Rattle.std.proofs.Common.{sym, ◌∙◌, arith, length-append, eq-eqb, ne_eqb}
+use Rattle.std.proofs.Common.{sym, ◌∙◌, arith, length-append}
 use Rattle.std.proofs.Math.Path.{ap}
 use Rattle.words.specs.Rows.{tab, length-tab, get_or-tab, take-tab}
 use Rattle.words.specs.Tables.{Table, drop_of, drop_past}
@@ -49,17 +49,6 @@ flagged (b ∷ bs) (w ∷ ws) = input_of b w ∷ flagged bs ws
 resolved-edges : (all_resolved (record { box = 7; id = 1 } ∷ []) (flagged (7 ∷ 8 ∷ []) (0 ∷ 5 ∷ [])) ≡ true) × (all_resolved (record { box = 7; id = 1 } ∷ []) (flagged (8 ∷ 8 ∷ []) (1 ∷ 0 ∷ [])) ≡ false) × (all_resolved [] [] ≡ true)
 unfolding resolved_by
 resolved-edges = (refl, refl, refl)
-
--- ---- one input, as the code tests it
-
-module _ (producers : List Pair) (b w : ℕ) where
-  pub resolved-flag : (w ≡ 0 → ⊥) → true ≡ resolved_by producers (input_of b w)
-  unfolding resolved_by
-  resolved-flag h = rw (ne_eqb w 0 h)
-
-  pub resolved-found : (t : Bool) → w ≡ 0 → t ≡ is_found (lookup producers b) → t ≡ resolved_by producers (input_of b w)
-  unfolding resolved_by
-  resolved-found t h e = rw (eq-eqb w 0 h) e
 
 -- ---- the inputs of a submission, one by one
 

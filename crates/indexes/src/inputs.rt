@@ -2,26 +2,23 @@
 ghost use Rattle.std.specs.Prelude.{◌≡◌, true, length};
 ghost use Rattle.words.specs.Ids.{id_of};
 ghost use Rattle.boxes.specs.Records.{index, lookup, inputs_of};
-ghost use Rattle.boxes.specs.Flat.{ids_of};
-ghost use Rattle.boxes.specs.Layout.{BoxesOk, boxes_of, all_rows};
-ghost use Rattle.boxes.specs.Index.{BoxesKept};
+ghost use Rattle.boxes.specs.Layout.{all_rows};
+ghost use Rattle.boxes.specs.Views.{boxes_in, KeptIn, ids_in};
 ghost use Rattle.indexes.specs.Inputs.{all_among};
 ghost use Rattle.indexes.specs.Parents.{links_of, last_parent};
 
 use crate::owners::producer;
-use boxes::links::last_input;
-use boxes::lists::has;
-use boxes::rows::box_key;
+use boxes::lists::Ids;
+use boxes::views::Boxes;
 use words::ids::Id;
 
 // Whether each input of a transaction is among the ids of the list.
-pub fn all_listed(s: &[u64], n: usize, id: Id, list: &[u64]) -> bool
-    requires { BoxesOk s.now n }
-    ensures { BoxesKept s.now n → result ≡ all_among (ids_of 4 list.now) (inputs_of (id_of id) (boxes_of s.now n)) }
+pub fn all_listed(boxes: &Boxes<'_>, id: Id, list: &Ids<'_>) -> bool
+    ensures { KeptIn boxes.now → result ≡ all_among (ids_in list.now) (inputs_of (id_of id) (boxes_in boxes.now)) }
 {
-    let mut at = s.len();
-    while let Some(i) = last_input(s, n, id, at) {
-        if !has(list, 4, box_key(s, i)) {
+    let mut at = boxes.end();
+    while let Some(i) = boxes.last_input(id, at) {
+        if !list.has(boxes.box_key(i)) {
             return false;
         }
         at = i;
@@ -30,13 +27,12 @@ pub fn all_listed(s: &[u64], n: usize, id: Id, list: &[u64]) -> bool
 }
 
 // How many inputs a transaction has, repeats counted.
-pub fn count_inputs(s: &[u64], n: usize, id: Id) -> usize
-    requires { BoxesOk s.now n }
-    ensures { BoxesKept s.now n → result ≡ length (inputs_of (id_of id) (boxes_of s.now n)) }
+pub fn count_inputs(boxes: &Boxes<'_>, id: Id) -> usize
+    ensures { KeptIn boxes.now → result ≡ length (inputs_of (id_of id) (boxes_in boxes.now)) }
 {
     let mut count = 0;
-    let mut at = s.len();
-    while let Some(i) = last_input(s, n, id, at) {
+    let mut at = boxes.end();
+    while let Some(i) = boxes.last_input(id, at) {
         count += 1;
         at = i;
     }
@@ -51,13 +47,12 @@ pub struct Parent {
 }
 
 // The last input of a transaction in the slots before `bound` that has a producer: who it is, and the slot of the input's record.
-pub fn last_parent(s: &[u64], n: usize, id: Id, bound: usize) -> Option<Parent>
-    requires { BoxesOk s.now n }
-    ensures { BoxesKept s.now n → links_of result ≡ last_parent (lookup (index true (all_rows s.now n))) (id_of id) (all_rows s.now n) bound }
+pub fn last_parent(boxes: &Boxes<'_>, id: Id, bound: usize) -> Option<Parent>
+    ensures { KeptIn boxes.now → links_of result ≡ last_parent (lookup (index true (all_rows boxes.now.words.now boxes.now.records))) (id_of id) (all_rows boxes.now.words.now boxes.now.records) bound }
 {
     let mut at = bound;
-    while let Some(i) = last_input(s, n, id, at) {
-        if let Some(id) = producer(s, n, box_key(s, i)) {
+    while let Some(i) = boxes.last_input(id, at) {
+        if let Some(id) = producer(boxes, boxes.box_key(i)) {
             return Some(Parent { id, slot: i });
         }
         at = i;

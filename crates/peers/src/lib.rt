@@ -73,7 +73,8 @@ pub fn charged(found: Standing, peer: u64, cost: u64) -> PeerRecord
     }
 }
 
-// The index of the peer's record among the first `used`.
+// The index of the peer's record among the first `used`. The records come with how many are in use, and not as the slice of these: a charge may take the
+// first one behind them, and its clause speaks of all.
 fn index_of(records: &[PeerRecord], used: usize, peer: u64) -> Option<usize>
     requires { used ≤ length records.now }
     ensures first { result ≡ find (λ i. eqb (slice_index_or records.now i no_peer).peer peer) (range_with_len 0 used) }

@@ -104,12 +104,12 @@ module _ (t : Bool) (s n : ℕ) (e : s + pick t 1 0 ≡ n) where
 
 -- ---- removals by a list of ids: what is left to do, over where we are
 
-module _ (l : List ℕ) (n i : ℕ) (t : Tables) where
-  pub remove-turn : i < n → (k : ℕ) → k ≡ id_at l (i * 4) → {u x : Tables} → u ≡ remove_tx k t → remove_all (drop i (ids_to 4 l n)) t ≡ x → remove_all (drop (i + 1) (ids_to 4 l n)) u ≡ x
-  remove-turn h k e q r = rw (q, e) (rw (drop_of (ids 4) l n i h) at r)
+module _ (W : ℕ) (l : List ℕ) (n i : ℕ) (t : Tables) where
+  pub remove-turn : i < n → (k : ℕ) → k ≡ id_at l (i * W) → {u x : Tables} → u ≡ remove_tx k t → remove_all (drop i (ids_to W l n)) t ≡ x → remove_all (drop (i + 1) (ids_to W l n)) u ≡ x
+  remove-turn h k e q r = rw (q, e) (rw (drop_of (ids W) l n i h) at r)
 
-  pub remove-end : n ≤ i → remove_all (drop i (ids_to 4 l n)) t ≡ t
-  remove-end h = rw (drop_past (ids 4) l n i h)
+  pub remove-end : n ≤ i → remove_all (drop i (ids_to W l n)) t ≡ t
+  remove-end h = rw (drop_past (ids W) l n i h)
 
 -- ---- eviction, a step at a time
 

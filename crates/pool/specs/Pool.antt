@@ -6,8 +6,10 @@ use Rattle.words.specs.Find.{without, last, drop_last}
 use Rattle.pool_types.specs.declared.Counts.{Counts}
 use Rattle.entries.specs.Entries.{Entry, ahead, insert_by, pooled, credit}
 use Rattle.entries.specs.Layout.{entries_of, entries_room, EntriesOk, EntriesKept}
+use Rattle.entries.specs.Layout.{ok-one as entries-one}
 use Rattle.boxes.specs.Records.{BoxRec, enter_tx, drop_owner}
 use Rattle.boxes.specs.Layout.{boxes_of, boxes_room, BoxesOk}
+use Rattle.boxes.specs.Layout.{ok-one as boxes-one}
 use Rattle.boxes.specs.Index.{BoxesKept}
 
 pub record Tables : Type 0 where
@@ -23,6 +25,10 @@ tables_of e b c = record { entries = entries_of e c.pooled; boxes = boxes_of b c
 pub record PoolFits (e b : List ℕ) (c : Counts) : Type 0 where
   pub entries : EntriesOk e c.pooled
   pub boxes : BoxesOk b c.records
+
+-- there is one proof at most: a struct keeps it
+pub fits-one : (e b : List ℕ) (c : Counts) → IsProp (PoolFits e b c)
+fits-one e b c x y = λ i. record { entries = entries-one e c.pooled x.entries y.entries i; boxes = boxes-one b c.records x.boxes y.boxes i }
 
 -- .. as a call tests it, on counts and words that nothing is known of
 abbrev pub fits_test : List ℕ → List ℕ → Counts → Bool

@@ -1,6 +1,6 @@
 -- What the pool's functions leave, from what their calls leave in each table.
 use Rattle.std.specs.Prelude.{ℕ, ◌+◌, ◌-◌, ◌≤◌, ◌≡◌, refl, false, List, length}
-use Rattle.std.proofs.Common.{ap, ◌∙◌}
+use Rattle.std.proofs.Common.{ap, ◌∙◌, arith}
 use Rattle.words.specs.Lists.{pick}
 use Rattle.words.specs.Find.{without, drop_last}
 use Rattle.pool_types.specs.declared.Counts.{Counts}
@@ -22,6 +22,15 @@ counts n r = record { pooled = n; records = r }
 -- two tables that agree in both parts
 both : {x y : List Entry} {u v : List BoxRec} → x ≡ y → u ≡ v → ◌≡◌ {A = Tables} (record { entries = x; boxes = u }) (record { entries = y; boxes = v })
 both p q = λ i. record { entries = p i; boxes = q i }
+
+-- the same counts in as many words as there were
+pub fits_same : (e b m n : List ℕ) (c : Counts) → PoolFits e b c → length m ≡ length e → length n ≡ length b → PoolFits m n c
+fits_same e b m n c f p q =
+    record { entries = entries-still e m c.pooled c.pooled f.entries p (omega arith); boxes = boxes-still b n c.records c.records f.boxes q (omega arith) }
+
+-- none left
+pub fewer-none : (e b : List ℕ) (c : Counts) → PoolFits e b c → Fewer e b c c
+fewer-none e b c f = record { fits = f; entries = omega arith; records = omega arith }
 
 -- fewer entries and records in as many words as there were
 pub fewer-fit : (e b m n : List ℕ) (c : Counts) (k r : ℕ) → PoolFits e b c → length m ≡ length e → length n ≡ length b → k ≤ c.pooled → r ≤ c.records → Fewer m n c (counts k r)

@@ -9,13 +9,14 @@ ghost use Rattle.arguments.specs.Arguments.{records};
 ghost use Rattle.entries.specs.Layout.{entries_room};
 ghost use Rattle.boxes.specs.Layout.{boxes_room};
 ghost use Rattle.boxes.specs.Index.{BoxesKept};
-ghost use Rattle.pool.specs.Pool.{PoolFits, Room, tables_of, no_room};
+ghost use Rattle.pool.specs.Pool.{Room, tables_of, no_room};
 ghost use Rattle.store.specs.Fits.{cache_fits, all_fit};
 
 use arguments::count_records;
 use expiring_cache::cache_room;
-use pool::{fits, room_for};
-use pool_types::{Counts, Mempool, Refusal};
+use pool::fits;
+use pool::lent::Pool;
+use pool_types::{Mempool, Refusal};
 
 // How many peers can have a record.
 const PEER_RECORDS: usize = 256;
@@ -59,21 +60,18 @@ pub fn fits_all(
 
 // Whether a transaction's entry, or the records of its inputs and outputs, find no room.
 pub fn lacks_room(
-    entries: &[u64],
-    boxes: &[u64],
-    counts: Counts,
+    pool: &Pool<'_>,
     inputs: &[u64],
     in_width: usize,
     outputs: &[u64],
     out_width: usize,
 ) -> bool
-    requires pool_fits { PoolFits entries.now boxes.now counts }
-    requires in_width_nonzero { (0 < in_width) × (0 < out_width) }
-    ensures room { result ≡ false → Room entries.now boxes.now counts (records in_width inputs.now + records out_width outputs.now) }
-    ensures value { BoxesKept boxes.now counts.records → result ≡ no_room (entries_room entries.now) (boxes_room boxes.now) (tables_of entries.now boxes.now counts) (records in_width inputs.now + records out_width outputs.now) }
+    requires { (0 < in_width) × (0 < out_width) }
+    ensures room { result ≡ false → Room pool.now.entries.now pool.now.boxes.now pool.now.counts (records in_width inputs.now + records out_width outputs.now) }
+    ensures value { BoxesKept pool.now.boxes.now pool.now.counts.records → result ≡ no_room (entries_room pool.now.entries.now) (boxes_room pool.now.boxes.now) (tables_of pool.now.entries.now pool.now.boxes.now pool.now.counts) (records in_width inputs.now + records out_width outputs.now) }
 {
     let needed = count_records(inputs, in_width) + count_records(outputs, out_width);
-    !room_for(entries, boxes, counts, needed)
+    !pool.room_for(needed)
 }
 
 // What is answered where they do not fit: an open pass is named first here too.

@@ -5,4 +5,4 @@ use Rattle.entries.specs.Laws.{lowest}
 use Rattle.pool.proofs.lowest_id.Goals as goal
 
 pub returns : goal.returns
-returns c = c.id_at.ensures ∙ ap (λ (e : Entry). e.id) (sym (lowest _ _ c.requires.pooled_nonzero _))
+returns c = rw c.len.ensures at c.id_at.ensures ∙ ap (λ (e : Entry). e.id) (sym (lowest _ _ c.requires _))

@@ -5,4 +5,4 @@ use Rattle.entries.specs.Laws.{lowest}
 use Rattle.pool.proofs.lowest_weight.Goals as goal
 
 pub returns : goal.returns
-returns c = c.weight_at.ensures ∙ ap (λ (e : Entry). e.weight) (sym (lowest _ _ c.requires.pooled_nonzero _))
+returns c = rw c.len.ensures at c.weight_at.ensures ∙ ap (λ (e : Entry). e.weight) (sym (lowest _ _ c.requires _))

@@ -4,4 +4,4 @@ use Rattle.indexes.specs.Conflicts.{added_new}
 use Rattle.indexes.proofs.conflicts.put_once.Goals as goal
 
 pub returns : goal.returns
-returns c = rw c.put_id.ensures (added_new _ _ _ c.requires (sym c.among.ensures ∙ c.if-among.false))
+returns c = rw c.put_id.ensures (added_new _ _ _ c.requires (sym (rw (c.new.ensures.0, c.new.ensures.1) at c.among.ensures) ∙ c.if-among.false))

@@ -4,7 +4,7 @@ use Rattle.indexes.specs.Inputs.{check-first, check-none, check-fails, check-on}
 use Rattle.indexes.proofs.inputs.all_listed.Goals as goal
 
 pub loop-i-init : goal.loop-i-init
-loop-i-init c = check-first _ _ _ _ c.requires
+loop-i-init c = rw c.end-at.ensures (check-first _ _ _ _ c.args.boxes.now.fits)
 
 pub box_key-requires : goal.box_key-requires
 box_key-requires c = (c.last_input.ensures.input_at.some _ c.in-Some.is).1

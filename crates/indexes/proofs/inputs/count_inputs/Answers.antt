@@ -3,7 +3,7 @@ use Rattle.indexes.specs.Inputs.{count-first, count_none, count-more}
 use Rattle.indexes.proofs.inputs.count_inputs.Goals as goal
 
 pub loop-i-init : goal.loop-i-init
-loop-i-init c = count-first _ _ _ c.requires
+loop-i-init c = rw c.end-at.ensures (count-first _ _ _ c.args.boxes.now.fits)
 
 pub loop-i-smaller : goal.loop-i-smaller
 loop-i-smaller c = (c.last_input.ensures.input_at.some _ c.in-Some.is).0

@@ -4,7 +4,7 @@ use Rattle.indexes.specs.Resolved.{read_first, read_none, read-flag, read-fails,
 use Rattle.indexes.proofs.resolved.answer_resolved.Goals as goal
 
 pub loop-i-init : goal.loop-i-init
-loop-i-init c = read_first _ _ _ _ _ c.requires
+loop-i-init c = rw c.end-at.ensures (read_first _ _ _ _ _ c.args.boxes.now.fits)
 
 pub returns-in_default-split_last : goal.returns-in_default-split_last
 returns-in_default-split_last c = read-flag _ _ _ _ _ _ _ c.loop-i.invariant _ c.last_input.ensures.input_at c.last_input.ensures.last_input _ c.in-Some.is c.in_default-split_last.ensures.cases false
