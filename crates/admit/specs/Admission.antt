@@ -1,8 +1,8 @@
 -- What an admission leaves, way by way.
 use Rattle.std.specs.Prelude.{None, Some}
-use Rattle.std.specs.Prelude.{ℕ, ◌+◌, ◌≤◌, ◌<◌, min, ◌≡◌, Bool, ◌||◌, List, [], ◌∷◌, eqb, ltb, length}
+use Rattle.std.specs.Prelude.{ℕ, ◌+◌, ◌*◌, ◌≤◌, ◌<◌, min, ◌≡◌, Bool, ◌||◌, List, [], ◌∷◌, eqb, ltb, length, take}
 use Rattle.std.proofs.Math.Path.{refl, ap}
-use Rattle.std.proofs.Common.{sym, subst, ◌∙◌, zero-add}
+use Rattle.std.proofs.Common.{sym, subst, ◌∙◌, zero-add, length-take, get_or-take}
 use Rattle.std.proofs.Math.Bool.{true, false}
 use native.Mathlib.Omega.{arith}
 use borrow.Author.Tests.{lt-ltb, le-ltb, ne_eqb}
@@ -13,7 +13,8 @@ use Rattle.pool_types.specs.declared.Refusal.{Refusal}
 use Rattle.pool_types.specs.declared.Refusal.TheVariants.{FeeBelowMinimum, PoolFull}
 use Rattle.pool_types.specs.Outcomes.{processed_of, refused, done, wrote}
 use Rattle.words.specs.Sums.{cap}
-use Rattle.words.specs.Ids.{id_of}
+use Rattle.words.specs.Ids.{id_of, id_at}
+use Rattle.words.specs.Rows.{tab-ext}
 use Rattle.pool_types.specs.declared.Counts.{Counts}
 use Rattle.pool_types.specs.declared.MempoolConfig.{MempoolConfig}
 use Rattle.pool_types.specs.declared.Submission.{Submission}
@@ -24,31 +25,25 @@ use Rattle.arguments.specs.Arguments.{fee_of, fee_sum}
 use Rattle.entries.specs.Entries.{Entry, key_of, pooled}
 use Rattle.entries.specs.declared.fields.PoolEntry.{PoolEntry}
 use Rattle.entries.specs.Layout.{entry_of, entries_of}
-use Rattle.entries.specs.Layout.{ok-still as entries-still, ok-fewer as entries-fewer}
+use Rattle.entries.specs.Layout.{ok-still as entries-still}
 use Rattle.boxes.specs.Records.{drop_owner, index, conflicts}
-use Rattle.boxes.specs.Flat.{ids_of}
+use Rattle.boxes.specs.Flat.{count_of, ids_to, ids_of}
 use Rattle.boxes.specs.Layout.{room-still}
-use Rattle.pool.specs.Pool.{Tables, PoolFits, Room, Fewer, Left, insert_tx, remove_tx, remove_all, evicted}
+use Rattle.pool.specs.Pool.{Tables, Room, Fewer, Left, insert_tx, remove_tx, remove_all, evicted}
 use Rattle.family.specs.Family.{propagated}
 use Rattle.answers.specs.Answers.{Wrote, wrote_nothing, wrote-both}
 use Rattle.admit.specs.Admit.{Admitted, cost_of, loses, crowded, newcomer, joined, settled, seated, contested, admit_spec}
 use Rattle.admit.specs.Evictions.{Evicts}
 use Rattle.admit.specs.Placed.{of_admission}
 use Rattle.pool_types.specs.Outcomes.{written_of}
-use Rattle.admit.specs.declared.admission.Admission.{Admission}
-use Rattle.admit.specs.declared.evictions.Evicted.{Evicted}
 
--- the admission r leaves what s says in words e and b, and in an answer buffer a that was a₀
-pub record Leaves (e b : List ℕ) (r : Admission) (a₀ a : List ℕ) (s : Admitted) : Type 0 where
-  pub left : Left e b r.counts s.tables
-  pub outcome : processed_of r.outcome ≡ s.outcome
+-- an admission of outcome o leaves what s says in words e and b with counts c, and in an answer buffer a that was a₀
+pub record Leaves (e b : List ℕ) (c : Counts) (o : ProcessingOutcome) (a₀ a : List ℕ) (s : Admitted) : Type 0 where
+  pub left : Left e b c s.tables
+  pub outcome : processed_of o ≡ s.outcome
   pub wrote : Wrote a₀ a 0 s.written
 
 -- ---- room
-
-pub room_fits : (e b : List ℕ) (c : Counts) (needed : ℕ) → Room e b c needed → PoolFits e b c
-room_fits e b c needed r =
-    record { entries = entries-fewer e c.pooled (c.pooled + 1) r.entries (omega arith); boxes = r.boxes }
 
 -- removals leave no more than there was, and so no less room
 pub room_after : (e b m o : List ℕ) (c d : Counts) (needed : ℕ) → Room e b c needed → length m ≡ length e → length o ≡ length b → Fewer m o c d → Room m o d needed
@@ -58,10 +53,6 @@ room_after e b m o c d needed r p q f =
       boxes = f.fits.boxes;
       free = omega (arith, f.records, r.free, room-still b o q);
     }
-
--- words of entries that are as many have as much room
-pub fits-still : (e m b : List ℕ) (c : Counts) → PoolFits e b c → length m ≡ length e → PoolFits m b c
-fits-still e m b c f p = record { entries = entries-still e m c.pooled c.pooled f.entries p (omega arith); boxes = f.boxes }
 
 -- ---- an id that is not pooled is not pooled after removals
 
@@ -91,26 +82,25 @@ module _ (k : ℕ) where
 
 -- ---- on any words
 
--- counts that fit, an outcome of an admission's own, and no more ids told than the buffer has places
-pub record Sound (room : ℕ) (e b : List ℕ) (r : Admission) : Type 0 where
-  pub fits : PoolFits e b r.counts
-  pub ours : of_admission (processed_of r.outcome) ≡ true
-  pub told : written_of (processed_of r.outcome) ≤ room
+-- an outcome of an admission's own, and no more ids told than the buffer has places
+pub record Sound (room : ℕ) (o : ProcessingOutcome) : Type 0 where
+  pub ours : of_admission (processed_of o) ≡ true
+  pub told : written_of (processed_of o) ≤ room
 
-module _ (room : ℕ) (e b : List ℕ) (c : Counts) (f : PoolFits e b c) where
+module _ (room : ℕ) where
   -- 10 and 30
-  pub sound_declined : (r : Refusal) → (eqb (refusal_number r) 10 || (eqb (refusal_number r) 29 || eqb (refusal_number r) 30)) ≡ true → Sound room e b (record { counts = c; outcome = Declined r })
+  pub sound_declined : (r : Refusal) → (eqb (refusal_number r) 10 || (eqb (refusal_number r) 29 || eqb (refusal_number r) 30)) ≡ true → Sound room (Declined r)
   unfolding processed_of of_admission written_of
-  sound_declined r h = record { fits = f; ours = h; told = omega arith }
+  sound_declined r h = record { ours = h; told = omega arith }
 
-  pub sound_lost : (n k : ℕ) → n ≡ min room k → Sound room e b (record { counts = c; outcome = DoubleSpendLoser n })
+  pub sound_lost : (n k : ℕ) → n ≡ min room k → Sound room (DoubleSpendLoser n)
   unfolding processed_of of_admission written_of
-  sound_lost n k h = record { fits = f; ours = refl; told = omega arith }
+  sound_lost n k h = record { ours = refl; told = omega arith }
 
   -- it is in, with k losers gone
-  pub sound-in : (out : ProcessingOutcome) (k n : ℕ) → processed_of out ≡ pick (eqb k 0) done (wrote (min room n)) → Sound room e b (record { counts = c; outcome = out })
+  pub sound-in : (out : ProcessingOutcome) (k n : ℕ) → processed_of out ≡ pick (eqb k 0) done (wrote (min room n)) → Sound room out
   unfolding of_admission written_of
-  sound-in out k n h = record { fits = f; ours = ap of_admission h ∙ own (eqb k 0); told = omega (arith, ap written_of h, few (eqb k 0)) }
+  sound-in out k n h = record { ours = ap of_admission h ∙ own (eqb k 0); told = omega (arith, ap written_of h, few (eqb k 0)) }
     where
       own : (t : Bool) → of_admission (pick t done (wrote (min room n))) ≡ true
       own true = refl
@@ -122,36 +112,36 @@ module _ (room : ℕ) (e b : List ℕ) (c : Counts) (f : PoolFits e b c) where
 
 -- ---- the newcomer enters: the tables t, u with it, v with its credits, and then the eviction
 
-pub enters : (visits capacity at : ℕ) (w : Bool) (x : Entry) (ins outs : List ℕ) (t u v : Tables) (e b : List ℕ) (r : Evicted) (a₀ a : List ℕ)
-    → u ≡ insert_tx x (ids_of 5 ins) (ids_of 7 outs) t → v ≡ propagated visits x.base x.id u → Evicts capacity at w v e b r a₀ a → Evicts capacity at w (joined visits x ins outs t) e b r a₀ a
+pub enters : (visits capacity at : ℕ) (w : Bool) (x : Entry) (ins outs : List ℕ) (t u v : Tables) (e b : List ℕ) (c : Counts) (n : ℕ) (a₀ a : List ℕ)
+    → u ≡ insert_tx x (ids_of 5 ins) (ids_of 7 outs) t → v ≡ propagated visits x.base x.id u → Evicts capacity at w v e b c n a₀ a → Evicts capacity at w (joined visits x ins outs t) e b c n a₀ a
 unfolding joined
-enters visits capacity at w x ins outs t u v e b r a₀ a p q = subst (λ (z : Tables). Evicts capacity at w z e b r a₀ a) (q ∙ ap (propagated visits x.base x.id) p)
+enters visits capacity at w x ins outs t u v e b c n a₀ a p q = subst (λ (z : Tables). Evicts capacity at w z e b c n a₀ a) (q ∙ ap (propagated visits x.base x.id) p)
 
 -- ---- 30, or the newcomer settles
 
 module _ (visits room capacity : ℕ) (x : Entry) (ins outs ks : List ℕ) (t : Tables) where
   pub seat-crowded : (e b : List ℕ) (c : Counts) (a : List ℕ) → Left e b c t → crowded capacity x.base t.entries ≡ true
-      → Leaves e b (record { counts = c; outcome = Declined PoolFull }) a a (seated visits room capacity x ins outs ks t)
+      → Leaves e b c (Declined PoolFull) a a (seated visits room capacity x ins outs ks t)
   unfolding seated processed_of
   seat-crowded e b c a l h = rw h (record { left = l; outcome = refl; wrote = wrote_nothing a 0 })
 
-  pub seat-taken : (e b : List ℕ) (r : Admission) (a₀ a : List ℕ) → crowded capacity x.base t.entries ≡ false → Leaves e b r a₀ a (settled room capacity ks (joined visits x ins outs t))
-      → Leaves e b r a₀ a (seated visits room capacity x ins outs ks t)
+  pub seat-taken : (e b : List ℕ) (c : Counts) (o : ProcessingOutcome) (a₀ a : List ℕ) → crowded capacity x.base t.entries ≡ false → Leaves e b c o a₀ a (settled room capacity ks (joined visits x ins outs t))
+      → Leaves e b c o a₀ a (seated visits room capacity x ins outs ks t)
   unfolding seated
-  seat-taken e b r a₀ a h l = rw h l
+  seat-taken e b c o a₀ a h l = rw h l
 
 -- the ids of k losers are written, then those of the evicted: where there is a loser
-pub settles : (room capacity : ℕ) (ks : List ℕ) (t : Tables) (e b : List ℕ) (r : Evicted) (out : ProcessingOutcome) (a₀ a₁ a : List ℕ) (k : ℕ) → k ≡ length ks
-    → Wrote a₀ a₁ 0 ks → Evicts capacity k (ltb 0 k) t e b r a₁ a → processed_of out ≡ pick (eqb k 0) done (wrote (min room (k + r.n)))
-    → Leaves e b (record { counts = r.counts; outcome = out }) a₀ a (settled room capacity ks t)
+pub settles : (room capacity : ℕ) (ks : List ℕ) (t : Tables) (e b : List ℕ) (c : Counts) (n : ℕ) (out : ProcessingOutcome) (a₀ a₁ a : List ℕ) (k : ℕ) → k ≡ length ks
+    → Wrote a₀ a₁ 0 ks → Evicts capacity k (ltb 0 k) t e b c n a₁ a → processed_of out ≡ pick (eqb k 0) done (wrote (min room (k + n)))
+    → Leaves e b c out a₀ a (settled room capacity ks t)
 unfolding settled
-settles room capacity [] t e b r out a₀ a₁ a k p w v q =
+settles room capacity [] t e b c n out a₀ a₁ a k p w v q =
     record {
       left = v.left;
       outcome = q ∙ rw p;
       wrote = wrote-both a₀ a₁ a 0 0 [] [] refl w (rw p at v.wrote);
     }
-settles room capacity (j ∷ ks) t e b r out a₀ a₁ a k p w v q =
+settles room capacity (j ∷ ks) t e b c n out a₀ a₁ a k p w v q =
     let h : 0 < k = rw p (omega arith) in
     let z : k ≡ 0 → ⊥ = omega arith in
     record {
@@ -162,32 +152,54 @@ settles room capacity (j ∷ ks) t e b r out a₀ a₁ a k p w v q =
 
 -- ---- 29, or the losers go
 
+-- the first k ids of a list are the ids of the words that they stand in
+module _ (l : List ℕ) (k : ℕ) (h : k * 4 ≤ length l) where
+  front-id : (i : ℕ) → i < k → id_at (take (k * 4) l) (i * 4) ≡ id_at l (i * 4)
+  unfolding id_at
+  front-id i b =
+      rw (
+        get_or-take (k * 4) l (i * 4) 0 (omega arith),
+        get_or-take (k * 4) l (i * 4 + 1) 0 (omega arith),
+        get_or-take (k * 4) l (i * 4 + 2) 0 (omega arith),
+        get_or-take (k * 4) l (i * 4 + 3) 0 (omega arith),
+      )
+
+  front-count : count_of 4 (take (k * 4) l) ≡ k
+  front-count = omega (arith, length-take (k * 4) l)
+
+  pub front-ids : ids_of 4 (take (k * 4) l) ≡ ids_to 4 l k
+  unfolding ids_to
+  front-ids = rw front-count (tab-ext (λ i. id_at (take (k * 4) l) (i * 4)) (λ i. id_at l (i * 4)) k front-id)
+
+pub ids-front : (W : ℕ) (m l : List ℕ) (k : ℕ) → W ≡ 4 → m ≡ take (k * 4) l → k * 4 ≤ length l → ids_of W m ≡ ids_to 4 l k
+ids-front W m l k p q h = rw (p, q) (front-ids l k h)
+
 module _ (visits room capacity : ℕ) (x : Entry) (ins outs ks : List ℕ) (t : Tables) where
   pub contest-lost : (e b : List ℕ) (c : Counts) (a₀ a : List ℕ) (k n : ℕ) → Left e b c t → loses x.base ks t.entries ≡ true → k ≡ length ks → n ≡ min room k → Wrote a₀ a 0 ks
-      → Leaves e b (record { counts = c; outcome = DoubleSpendLoser n }) a₀ a (contested visits room capacity x ins outs ks t)
+      → Leaves e b c (DoubleSpendLoser n) a₀ a (contested visits room capacity x ins outs ks t)
   unfolding contested processed_of
   contest-lost e b c a₀ a k n l h p q w = rw h (record { left = l; outcome = ap (refused 29) (q ∙ ap (min room) p); wrote = w })
 
-  pub contest-won : (e b : List ℕ) (r : Admission) (a₀ a : List ℕ) (u : Tables) → loses x.base ks t.entries ≡ false → u ≡ remove_all ks t → Leaves e b r a₀ a (seated visits room capacity x ins outs ks u)
-      → Leaves e b r a₀ a (contested visits room capacity x ins outs ks t)
+  pub contest-won : (e b : List ℕ) (c : Counts) (o : ProcessingOutcome) (a₀ a : List ℕ) (u : Tables) → loses x.base ks t.entries ≡ false → u ≡ remove_all ks t → Leaves e b c o a₀ a (seated visits room capacity x ins outs ks u)
+      → Leaves e b c o a₀ a (contested visits room capacity x ins outs ks t)
   unfolding contested
-  contest-won e b r a₀ a u h p l = rw (h, ← p) l
+  contest-won e b c o a₀ a u h p l = rw (h, ← p) l
 
   -- there is nobody to contest with
-  pub contest-free : (js : List ℕ) (e b : List ℕ) (r : Admission) (a₀ a : List ℕ) → ks ≡ [] → js ≡ [] → Leaves e b r a₀ a (seated visits room capacity x ins outs js t) → Leaves e b r a₀ a (contested visits room capacity x ins outs ks t)
+  pub contest-free : (js : List ℕ) (e b : List ℕ) (c : Counts) (o : ProcessingOutcome) (a₀ a : List ℕ) → ks ≡ [] → js ≡ [] → Leaves e b c o a₀ a (seated visits room capacity x ins outs js t) → Leaves e b c o a₀ a (contested visits room capacity x ins outs ks t)
   unfolding contested loses
-  contest-free js e b r a₀ a p q l = rw p (rw q at l)
+  contest-free js e b c o a₀ a p q l = rw p (rw q at l)
 
 -- ---- 10, or the contest
 
 module _ (visits room : ℕ) (g : MempoolConfig) (t : Tables) (a : Submission) (c : ℕ) (ins outs : List ℕ) (fee : ℕ) (p : fee ≡ fee_of outs) where
   pub fee-refused : (e b : List ℕ) (d : Counts) (a₀ : List ℕ) → Left e b d t → fee < g.min_fee
-      → Leaves e b (record { counts = d; outcome = Declined FeeBelowMinimum }) a₀ a₀ (admit_spec visits room g t a c ins outs)
+      → Leaves e b d (Declined FeeBelowMinimum) a₀ a₀ (admit_spec visits room g t a c ins outs)
   unfolding admit_spec processed_of
   fee-refused e b d a₀ l h = rw (← p, lt-ltb fee g.min_fee h) (record { left = l; outcome = refl; wrote = wrote_nothing a₀ 0 })
 
-  module _ (e b : List ℕ) (r : Admission) (a₀ a₁ : List ℕ) (h : g.min_fee ≤ fee) (x : Entry) (base cost : ℕ) (k : cost ≡ cost_of c a.size) (q : base ≡ fee_per_factor g.fee_strategy fee a.size cost) (o : x ≡ newcomer a c base ins outs) where
-    pub fee-contested : Leaves e b r a₀ a₁ (contested visits room g.capacity x ins outs (conflicts (index false t.boxes) (ids_of 5 ins)) t) → Leaves e b r a₀ a₁ (admit_spec visits room g t a c ins outs)
+  module _ (e b : List ℕ) (d : Counts) (n : ProcessingOutcome) (a₀ a₁ : List ℕ) (h : g.min_fee ≤ fee) (x : Entry) (base cost : ℕ) (k : cost ≡ cost_of c a.size) (q : base ≡ fee_per_factor g.fee_strategy fee a.size cost) (o : x ≡ newcomer a c base ins outs) where
+    pub fee-contested : Leaves e b d n a₀ a₁ (contested visits room g.capacity x ins outs (conflicts (index false t.boxes) (ids_of 5 ins)) t) → Leaves e b d n a₀ a₁ (admit_spec visits room g t a c ins outs)
     unfolding admit_spec
     fee-contested l = rw (← p, le-ltb fee g.min_fee h, ← k, ← q, ← o) l
 

@@ -35,8 +35,8 @@ pub record Weighty (n i : ℕ) (sum : Wide) : Type 0 where
   pub done : i ≤ n
   pub few : Few i sum
 
-pub record Weighing (es : List Entry) (l : List ℕ) (n i : ℕ) (sum : Wide) : Type 0 where
-  pub left : wide_of sum + weights_of (drop i (ids_to 4 l n)) es ≡ weights_of (ids_to 4 l n) es
+pub record Weighing (es : List Entry) (W : ℕ) (l : List ℕ) (n i : ℕ) (sum : Wide) : Type 0 where
+  pub left : wide_of sum + weights_of (drop i (ids_to W l n)) es ≡ weights_of (ids_to W l n) es
 
 module _ (n : ℕ) where
   pub weighty-none : Weighty n 0 (record { high = 0; low = 0 })
@@ -51,25 +51,25 @@ module _ (n : ℕ) where
   unfolding Few
   weighty-more i x sum to h w b q = record { done = omega arith; few = rw q (sum_more sum i w.few x b) }
 
-module _ (es : List Entry) (l : List ℕ) (n : ℕ) where
-  pub weighing-none : Weighing es l n 0 (record { high = 0; low = 0 })
+module _ (es : List Entry) (W : ℕ) (l : List ℕ) (n : ℕ) where
+  pub weighing-none : Weighing es W l n 0 (record { high = 0; low = 0 })
   unfolding wide_of
   weighing-none = record { left = omega arith }
 
-  pub weighing-more : (i k x : ℕ) (sum to : Wide) → i < n → Weighing es l n i sum → k ≡ id_at l (i * 4) → x ≡ weight_of k es → wide_of to ≡ wide_of sum + x → Weighing es l n (i + 1) to
+  pub weighing-more : (i k x : ℕ) (sum to : Wide) → i < n → Weighing es W l n i sum → k ≡ id_at l (i * W) → x ≡ weight_of k es → wide_of to ≡ wide_of sum + x → Weighing es W l n (i + 1) to
   weighing-more i k x sum to h w p e q =
-      record { left = rw (q, e, p) (add_assoc (wide_of sum) _ _ ∙ ap (λ (ks : List ℕ). wide_of sum + weights_of ks es) (sym (drop_of (ids 4) l n i h)) ∙ w.left) }
+      record { left = rw (q, e, p) (add_assoc (wide_of sum) _ _ ∙ ap (λ (ks : List ℕ). wide_of sum + weights_of ks es) (sym (drop_of (ids W) l n i h)) ∙ w.left) }
 
-  pub weighing-all : (i : ℕ) (sum : Wide) → n ≤ i → Weighing es l n i sum → wide_of sum ≡ weights_of (ids_to 4 l n) es
-  weighing-all i sum h w = sym (add-zero (wide_of sum)) ∙ rw (drop_past (ids 4) l n i h) at w.left
+  pub weighing-all : (i : ℕ) (sum : Wide) → n ≤ i → Weighing es W l n i sum → wide_of sum ≡ weights_of (ids_to W l n) es
+  weighing-all i sum h w = sym (add-zero (wide_of sum)) ∙ rw (drop_past (ids W) l n i h) at w.left
 
 -- ---- 29
 
-module _ (base : ℕ) (es : List Entry) (l : List ℕ) (n : ℕ) where
-  pub loses_not : n ≡ 0 → false ≡ loses base (ids_to 4 l n) es
+module _ (base : ℕ) (es : List Entry) (W : ℕ) (l : List ℕ) (n : ℕ) where
+  pub loses_not : n ≡ 0 → false ≡ loses base (ids_to W l n) es
   unfolding loses
-  loses_not h = rw ((ids 4).len l n, eq-eqb n 0 h)
+  loses_not h = rw ((ids W).len l n, eq-eqb n 0 h)
 
-  pub loses_by : (sum : Wide) (v : ℕ) → (n ≡ 0 → ⊥) → wide_of sum ≡ weights_of (ids_to 4 l n) es → v ≡ quotient_of (wide_of sum) n → leb base v ≡ loses base (ids_to 4 l n) es
+  pub loses_by : (sum : Wide) (v : ℕ) → (n ≡ 0 → ⊥) → wide_of sum ≡ weights_of (ids_to W l n) es → v ≡ quotient_of (wide_of sum) n → leb base v ≡ loses base (ids_to W l n) es
   unfolding loses
-  loses_by sum v h e q = rw (q, e, (ids 4).len l n, ne_eqb n 0 h)
+  loses_by sum v h e q = rw (q, e, (ids W).len l n, ne_eqb n 0 h)

@@ -9,22 +9,24 @@ ghost use Rattle.entries.specs.Entries.{pooled};
 ghost use Rattle.entries.specs.Layout.{entry_of, entries_of};
 ghost use Rattle.boxes.specs.Records.{index, conflicts};
 ghost use Rattle.boxes.specs.Layout.{boxes_of};
-ghost use Rattle.boxes.specs.Flat.{count_of, ids_to, ids_of};
-ghost use Rattle.pool.specs.Pool.{PoolFits, PoolKept, Room, tables_of};
+ghost use Rattle.boxes.specs.Flat.{count_of, ids_of};
+ghost use Rattle.boxes.specs.Views.{count_in, ids_in};
+ghost use Rattle.pool.specs.Lent.{Same, KeptIn, RoomIn, tables_in};
 ghost use Rattle.admit.specs.Admit.{cost_of, newcomer, joined, seated, contested, admit_spec};
 ghost use Rattle.admit.specs.Evictions.{Evicts};
 ghost use Rattle.admit.specs.Admission.{Sound, Leaves};
 ghost use Rattle.admit.specs.Spares.{SparesWords, Unmoved};
 
 use crate::contests::is_loser;
-use crate::evictions::{Evicted, evict_to, is_crowded};
+use crate::evictions::{evict_to, is_crowded};
 use answers::{places, write_ids};
 use arguments::{count_records, extract_fee, height_key};
+use boxes::lists::{Ids, TxIds};
 use entries::fields::PoolEntry;
 use family::propagate_family_weight;
 use indexes::conflicts::{any_spent, conflicts};
-use pool::{insert, remove_all};
-use pool_types::{Counts, MempoolConfig, ProcessingOutcome, Refusal, Submission};
+use pool::lent::PoolMut;
+use pool_types::{Lists, MempoolConfig, ProcessingOutcome, Refusal, Submission};
 use weight::fee_per_factor;
 
 // More inputs were refused with 7.
@@ -32,13 +34,6 @@ const MAX_TX_INPUTS: usize = 5000;
 
 // Words for one conflict for each input.
 const CONFLICT_WORDS: usize = MAX_TX_INPUTS * 4;
-
-// What an admission leaves beside the tables and the answer buffer.
-#[derive(Clone, Copy)]
-pub struct Admission {
-    pub counts: Counts,
-    pub outcome: ProcessingOutcome,
-}
 
 // What a transaction costs: its verdict's cost, but at least its size.
 pub fn cost_of(verdict: u64, size: u64) -> u64
@@ -49,8 +44,8 @@ pub fn cost_of(verdict: u64, size: u64) -> u64
 
 // The newcomer's entry.
 #[tactic(auto, unfolding(entries::specs::Layout::entry_of, crate::specs::Admit::newcomer))]
-fn newcomer(sub: Submission, cost: u64, base: u64, inputs: &[u64], outputs: &[u64]) -> PoolEntry
-    ensures { entry_of result ≡ newcomer sub cost base inputs.now outputs.now }
+fn newcomer(sub: Submission, cost: u64, base: u64, lists: &Lists<'_>) -> PoolEntry
+    ensures { entry_of result ≡ newcomer sub cost base lists.now.inputs.now lists.now.outputs.now }
 {
     PoolEntry {
         id: sub.id,
@@ -61,33 +56,38 @@ fn newcomer(sub: Submission, cost: u64, base: u64, inputs: &[u64], outputs: &[u6
         validation_cost: Some(cost),
         created: sub.time,
         last_checked: sub.time,
-        height_key: height_key(outputs, 7, 6),
-        inputs: count_records(inputs, 5) as u64,
+        height_key: height_key(lists.outputs, 7, 6),
+        inputs: count_records(lists.inputs, 5) as u64,
     }
 }
 
-// The newcomer is inserted, credits its family, and the lowest are evicted, be it the newcomer itself.
+// The newcomer is inserted, credits its family, and the lowest are evicted, be it the newcomer itself. Returns how many were.
+// That there is room is a fact of the pool and the newcomer's lists together, which no type of one of them holds.
 fn enter(
-    entries: &mut [u64],
-    boxes: &mut [u64],
-    counts: Counts,
+    pool: &mut PoolMut<'_>,
     e: PoolEntry,
-    inputs: &[u64],
-    outputs: &[u64],
+    lists: &Lists<'_>,
     capacity: usize,
     answer: &mut [u64],
     at: usize,
     write: bool,
-) -> Evicted
-    requires room { Room entries.old boxes.old counts (count_of 5 inputs.now + count_of 7 outputs.now) }
+) -> usize
+    requires room { RoomIn pool.old (count_of 5 lists.now.inputs.now + count_of 7 lists.now.outputs.now) }
     requires at_bound { at ≤ 5000 }
-    ensures pool_fits { PoolFits entries.new boxes.new result.counts × (at + result.n ≤ cap) }
-    ensures evicts { PoolKept entries.old boxes.old counts → pooled (id_of e.id) (entries_of entries.old counts.pooled) ≡ false
-        → Evicts capacity at write (joined 500 (entry_of e) inputs.now outputs.now (tables_of entries.old boxes.old counts)) entries.new boxes.new result answer.old answer.new }
+    ensures same { Same pool.old pool.new }
+    ensures upper_bound { at + result ≤ cap }
+    ensures evicts { KeptIn pool.old → pooled (id_of e.id) (entries_of pool.old.entries.now pool.old.counts.pooled) ≡ false
+        → Evicts capacity at write (joined 500 (entry_of e) lists.now.inputs.now lists.now.outputs.now (tables_in pool.old)) pool.new.entries.now pool.new.boxes.now pool.new.counts result answer.old answer.new }
 {
-    let entered = insert(entries, boxes, counts, e, inputs, 5, outputs, 7);
-    propagate_family_weight(entries, boxes, entered, e.id, e.base);
-    evict_to(entries, boxes, entered, capacity, answer, at, write)
+    pool.insert(
+        e,
+        &TxIds {
+            inputs: Ids::new(lists.inputs, 5),
+            outputs: Ids::new(lists.outputs, 7),
+        },
+    );
+    propagate_family_weight(pool, e.id, e.base);
+    evict_to(pool, capacity, answer, at, write)
 }
 
 // Where so many losers went: of the ids that were to be written those are counted that the answer buffer has room for.
@@ -102,193 +102,134 @@ fn outcome_of(losers: usize, written: usize, room: usize) -> ProcessingOutcome
     }
 }
 
-// 30, or the newcomer takes its place after the first `k` ids of a list went: only then are they written.
+// 30, or the newcomer takes its place after the losers went: only then are they written.
 #[tactic(auto, using(crate::specs::Spares::unmoved_full))]
 fn seat(
-    entries: &mut [u64],
-    boxes: &mut [u64],
-    counts: Counts,
+    pool: &mut PoolMut<'_>,
     e: PoolEntry,
-    inputs: &[u64],
-    outputs: &[u64],
+    lists: &Lists<'_>,
     capacity: usize,
-    list: &[u64],
-    k: usize,
+    losers: &Ids<'_>,
     answer: &mut [u64],
-) -> Admission
-    requires room { Room entries.old boxes.old counts (count_of 5 inputs.now + count_of 7 outputs.now) }
-    requires k_bound { (k ≤ count_of 4 list.now) × (k ≤ 5000) }
-    ensures sound { Sound (length answer.old / 4) entries.new boxes.new result }
-    ensures unmoved { Unmoved entries.old boxes.old answer.old counts entries.new boxes.new answer.new result }
-    ensures leaves { PoolKept entries.old boxes.old counts → pooled (id_of e.id) (entries_of entries.old counts.pooled) ≡ false
-        → Leaves entries.new boxes.new result answer.old answer.new (seated 500 (length answer.old / 4) capacity (entry_of e) inputs.now outputs.now (ids_to 4 list.now k) (tables_of entries.old boxes.old counts)) }
+) -> ProcessingOutcome
+    requires room { RoomIn pool.old (count_of 5 lists.now.inputs.now + count_of 7 lists.now.outputs.now) }
+    requires losers_bound { count_in losers.now ≤ 5000 }
+    ensures same { Same pool.old pool.new }
+    ensures sound { Sound (length answer.old / 4) result }
+    ensures unmoved { Unmoved pool.old.entries.now pool.old.boxes.now answer.old pool.old.counts pool.new.entries.now pool.new.boxes.now answer.new pool.new.counts result }
+    ensures leaves { KeptIn pool.old → pooled (id_of e.id) (entries_of pool.old.entries.now pool.old.counts.pooled) ≡ false
+        → Leaves pool.new.entries.now pool.new.boxes.now pool.new.counts result answer.old answer.new (seated 500 (length answer.old / 4) capacity (entry_of e) lists.now.inputs.now lists.now.outputs.now (ids_in losers.now) (tables_in pool.old)) }
 {
-    if is_crowded(entries, counts, capacity, e.base) {
-        return Admission {
-            counts,
-            outcome: ProcessingOutcome::Declined(Refusal::PoolFull),
-        };
+    if is_crowded(&pool.entries(), capacity, e.base) {
+        return ProcessingOutcome::Declined(Refusal::PoolFull);
     }
+    let k = losers.len();
     let room = places(answer);
-    write_ids(answer, 0, list, k);
-    let left = enter(
-        entries,
-        boxes,
-        counts,
-        e,
-        inputs,
-        outputs,
-        capacity,
-        answer,
-        k,
-        0 < k,
-    );
-    Admission {
-        counts: left.counts,
-        outcome: outcome_of(k, k + left.n, room),
-    }
+    write_ids(answer, 0, losers);
+    let n = enter(pool, e, lists, capacity, answer, k, 0 < k);
+    outcome_of(k, k + n, room)
 }
 
 // 29, or the transactions that spend one of the newcomer's boxes go.
 #[tactic(auto, using(crate::specs::Spares::spares_lost))]
 fn contest(
-    entries: &mut [u64],
-    boxes: &mut [u64],
-    counts: Counts,
+    pool: &mut PoolMut<'_>,
     e: PoolEntry,
-    inputs: &[u64],
-    outputs: &[u64],
+    lists: &Lists<'_>,
     capacity: usize,
     answer: &mut [u64],
-) -> Admission
-    requires room { Room entries.old boxes.old counts (count_of 5 inputs.now + count_of 7 outputs.now) }
-    requires inputs_bound { count_of 5 inputs.now ≤ 5000 }
-    ensures sound { Sound (length answer.old / 4) entries.new boxes.new result }
-    ensures spares_words { SparesWords entries.old boxes.old answer.old counts entries.new boxes.new answer.new result }
-    ensures leaves { PoolKept entries.old boxes.old counts → pooled (id_of e.id) (entries_of entries.old counts.pooled) ≡ false
-        → Leaves entries.new boxes.new result answer.old answer.new (contested 500 (length answer.old / 4) capacity (entry_of e) inputs.now outputs.now (conflicts (index false (boxes_of boxes.old counts.records)) (ids_of 5 inputs.now)) (tables_of entries.old boxes.old counts)) }
+) -> ProcessingOutcome
+    requires room { RoomIn pool.old (count_of 5 lists.now.inputs.now + count_of 7 lists.now.outputs.now) }
+    requires inputs_bound { count_of 5 lists.now.inputs.now ≤ 5000 }
+    ensures same { Same pool.old pool.new }
+    ensures sound { Sound (length answer.old / 4) result }
+    ensures spares_words { SparesWords pool.old.entries.now pool.old.boxes.now answer.old pool.old.counts pool.new.entries.now pool.new.boxes.now answer.new pool.new.counts result }
+    ensures leaves { KeptIn pool.old → pooled (id_of e.id) (entries_of pool.old.entries.now pool.old.counts.pooled) ≡ false
+        → Leaves pool.new.entries.now pool.new.boxes.now pool.new.counts result answer.old answer.new (contested 500 (length answer.old / 4) capacity (entry_of e) lists.now.inputs.now lists.now.outputs.now (conflicts (index false (boxes_of pool.old.boxes.now pool.old.counts.records)) (ids_of 5 lists.now.inputs.now)) (tables_in pool.old)) }
 {
+    // no heap: as large as the most inputs need
     let mut list = [0u64; CONFLICT_WORDS];
-    let k = conflicts(boxes, counts.records, inputs, 5, &mut list);
-    if is_loser(entries, counts.pooled, e.base, &list, k) {
-        let room = places(answer);
-        let told = room.min(k);
-        write_ids(answer, 0, &list, k);
-        return Admission {
-            counts,
-            outcome: ProcessingOutcome::DoubleSpendLoser(told),
-        };
+    let k = conflicts(&pool.boxes(), &Ids::new(lists.inputs, 5), &mut list);
+    let losers = Ids::new(&list[..k * 4], 4);
+    if is_loser(&pool.entries(), e.base, &losers) {
+        let told = places(answer).min(k);
+        write_ids(answer, 0, &losers);
+        return ProcessingOutcome::DoubleSpendLoser(told);
     }
-    let left = remove_all(entries, boxes, counts, &list, k);
-    seat(
-        entries, boxes, left, e, inputs, outputs, capacity, &list, k, answer,
-    )
+    pool.remove_all(&losers);
+    seat(pool, e, lists, capacity, &losers, answer)
 }
 
 // Whether the newcomer has anybody to contest with is asked first: most have nobody, and no list is cleared for them. So the list is a local of
 // `contest`, since a function pays for its locals at each entry.
 fn find_place(
-    entries: &mut [u64],
-    boxes: &mut [u64],
-    counts: Counts,
+    pool: &mut PoolMut<'_>,
     e: PoolEntry,
-    inputs: &[u64],
-    outputs: &[u64],
+    lists: &Lists<'_>,
     capacity: usize,
     answer: &mut [u64],
-) -> Admission
-    requires room { Room entries.old boxes.old counts (count_of 5 inputs.now + count_of 7 outputs.now) }
-    requires inputs_bound { count_of 5 inputs.now ≤ 5000 }
-    ensures sound { Sound (length answer.old / 4) entries.new boxes.new result }
-    ensures spares_words { SparesWords entries.old boxes.old answer.old counts entries.new boxes.new answer.new result }
-    ensures leaves { PoolKept entries.old boxes.old counts → pooled (id_of e.id) (entries_of entries.old counts.pooled) ≡ false
-        → Leaves entries.new boxes.new result answer.old answer.new (contested 500 (length answer.old / 4) capacity (entry_of e) inputs.now outputs.now (conflicts (index false (boxes_of boxes.old counts.records)) (ids_of 5 inputs.now)) (tables_of entries.old boxes.old counts)) }
+) -> ProcessingOutcome
+    requires room { RoomIn pool.old (count_of 5 lists.now.inputs.now + count_of 7 lists.now.outputs.now) }
+    requires inputs_bound { count_of 5 lists.now.inputs.now ≤ 5000 }
+    ensures same { Same pool.old pool.new }
+    ensures sound { Sound (length answer.old / 4) result }
+    ensures spares_words { SparesWords pool.old.entries.now pool.old.boxes.now answer.old pool.old.counts pool.new.entries.now pool.new.boxes.now answer.new pool.new.counts result }
+    ensures leaves { KeptIn pool.old → pooled (id_of e.id) (entries_of pool.old.entries.now pool.old.counts.pooled) ≡ false
+        → Leaves pool.new.entries.now pool.new.boxes.now pool.new.counts result answer.old answer.new (contested 500 (length answer.old / 4) capacity (entry_of e) lists.now.inputs.now lists.now.outputs.now (conflicts (index false (boxes_of pool.old.boxes.now pool.old.counts.records)) (ids_of 5 lists.now.inputs.now)) (tables_in pool.old)) }
 {
-    if any_spent(boxes, counts.records, inputs, 5) {
-        return contest(entries, boxes, counts, e, inputs, outputs, capacity, answer);
+    if any_spent(&pool.boxes(), &Ids::new(lists.inputs, 5)) {
+        return contest(pool, e, lists, capacity, answer);
     }
-    seat(
-        entries,
-        boxes,
-        counts,
-        e,
-        inputs,
-        outputs,
-        capacity,
-        &[],
-        0,
-        answer,
-    )
+    seat(pool, e, lists, capacity, &Ids::new(&[], 4), answer)
 }
 
 // 10, or the newcomer that pays this fee takes a place.
 fn offer(
-    entries: &mut [u64],
-    boxes: &mut [u64],
-    counts: Counts,
+    pool: &mut PoolMut<'_>,
     config: MempoolConfig,
     sub: Submission,
     cost: u64,
     fee: u64,
-    inputs: &[u64],
-    outputs: &[u64],
+    lists: &Lists<'_>,
     answer: &mut [u64],
-) -> Admission
-    requires room { Room entries.old boxes.old counts (count_of 5 inputs.now + count_of 7 outputs.now) }
-    requires inputs_bound { (count_of 5 inputs.now ≤ 5000) × (fee ≡ fee_of outputs.now) }
-    ensures sound { Sound (length answer.old / 4) entries.new boxes.new result }
-    ensures spares_words { SparesWords entries.old boxes.old answer.old counts entries.new boxes.new answer.new result }
-    ensures leaves { PoolKept entries.old boxes.old counts → pooled (id_of sub.id) (entries_of entries.old counts.pooled) ≡ false
-        → Leaves entries.new boxes.new result answer.old answer.new (admit_spec 500 (length answer.old / 4) config (tables_of entries.old boxes.old counts) sub cost inputs.now outputs.now) }
+) -> ProcessingOutcome
+    requires room { RoomIn pool.old (count_of 5 lists.now.inputs.now + count_of 7 lists.now.outputs.now) }
+    requires inputs_bound { (count_of 5 lists.now.inputs.now ≤ 5000) × (fee ≡ fee_of lists.now.outputs.now) }
+    ensures same { Same pool.old pool.new }
+    ensures sound { Sound (length answer.old / 4) result }
+    ensures spares_words { SparesWords pool.old.entries.now pool.old.boxes.now answer.old pool.old.counts pool.new.entries.now pool.new.boxes.now answer.new pool.new.counts result }
+    ensures leaves { KeptIn pool.old → pooled (id_of sub.id) (entries_of pool.old.entries.now pool.old.counts.pooled) ≡ false
+        → Leaves pool.new.entries.now pool.new.boxes.now pool.new.counts result answer.old answer.new (admit_spec 500 (length answer.old / 4) config (tables_in pool.old) sub cost lists.now.inputs.now lists.now.outputs.now) }
 {
     if fee < config.min_fee {
-        return Admission {
-            counts,
-            outcome: ProcessingOutcome::Declined(Refusal::FeeBelowMinimum),
-        };
+        return ProcessingOutcome::Declined(Refusal::FeeBelowMinimum);
     }
     let base = fee_per_factor(fee, sub.size, cost_of(cost, sub.size), config.fee_strategy);
-    let e = newcomer(sub, cost, base, inputs, outputs);
-    find_place(
-        entries,
-        boxes,
-        counts,
-        e,
-        inputs,
-        outputs,
-        config.capacity,
-        answer,
-    )
+    let e = newcomer(sub, cost, base, lists);
+    find_place(pool, e, lists, config.capacity, answer)
 }
 
 // What follows the tests of a submission whose valid verdict costs so much.
 #[tactic(auto, using(crate::specs::Admission::fee_same))]
 pub fn admit(
-    entries: &mut [u64],
-    boxes: &mut [u64],
-    counts: Counts,
+    pool: &mut PoolMut<'_>,
     config: MempoolConfig,
     sub: Submission,
     cost: u64,
-    inputs: &[u64],
-    outputs: &[u64],
+    lists: &Lists<'_>,
     answer: &mut [u64],
-) -> Admission
-    requires room { Room entries.old boxes.old counts (count_of 5 inputs.now + count_of 7 outputs.now) }
-    requires inputs_bound { (count_of 5 inputs.now ≤ 5000) × (fee_of outputs.now ≤ cap) }
-    ensures sound { Sound (length answer.old / 4) entries.new boxes.new result }
-    ensures spares_words { SparesWords entries.old boxes.old answer.old counts entries.new boxes.new answer.new result }
-    ensures leaves { PoolKept entries.old boxes.old counts → pooled (id_of sub.id) (entries_of entries.old counts.pooled) ≡ false
-        → Leaves entries.new boxes.new result answer.old answer.new (admit_spec 500 (length answer.old / 4) config (tables_of entries.old boxes.old counts) sub cost inputs.now outputs.now) }
+) -> ProcessingOutcome
+    requires room { RoomIn pool.old (count_of 5 lists.now.inputs.now + count_of 7 lists.now.outputs.now) }
+    requires inputs_bound { (count_of 5 lists.now.inputs.now ≤ 5000) × (fee_of lists.now.outputs.now ≤ cap) }
+    ensures same { Same pool.old pool.new }
+    ensures sound { Sound (length answer.old / 4) result }
+    ensures spares_words { SparesWords pool.old.entries.now pool.old.boxes.now answer.old pool.old.counts pool.new.entries.now pool.new.boxes.now answer.new pool.new.counts result }
+    ensures leaves { KeptIn pool.old → pooled (id_of sub.id) (entries_of pool.old.entries.now pool.old.counts.pooled) ≡ false
+        → Leaves pool.new.entries.now pool.new.boxes.now pool.new.counts result answer.old answer.new (admit_spec 500 (length answer.old / 4) config (tables_in pool.old) sub cost lists.now.inputs.now lists.now.outputs.now) }
 {
-    match extract_fee(outputs) {
-        Some(fee) => offer(
-            entries, boxes, counts, config, sub, cost, fee, inputs, outputs, answer,
-        ),
+    match extract_fee(lists.outputs) {
+        Some(fee) => offer(pool, config, sub, cost, fee, lists, answer),
         // never here: such a sum has been refused with 4
-        None => Admission {
-            counts,
-            outcome: ProcessingOutcome::Declined(Refusal::FeeSum),
-        },
+        None => ProcessingOutcome::Declined(Refusal::FeeSum),
     }
 }

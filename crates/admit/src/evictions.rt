@@ -3,31 +3,25 @@ ghost use Rattle.std.specs.Prelude.{◌≡◌, ◌∷◌, [], ◌+◌, ◌≤◌
 ghost use Rattle.words.specs.Lists.{pick};
 ghost use Rattle.words.specs.Ids.{id_of};
 ghost use Rattle.words.specs.Sums.{cap};
-ghost use Rattle.entries.specs.Layout.{EntriesOk, entries_of};
-ghost use Rattle.pool.specs.Pool.{PoolFits, PoolKept, tables_of};
+ghost use Rattle.entries.specs.Views.{entries_in};
+ghost use Rattle.pool.specs.Lent.{Same, KeptIn, tables_in};
 ghost use Rattle.answers.specs.Answers.{Wrote};
 ghost use Rattle.admit.specs.Admit.{crowded};
 ghost use Rattle.admit.specs.Evictions.{Evicts};
 
 use answers::write_id;
-use pool::{evict_lowest, lowest_id, lowest_weight};
-use pool_types::Counts;
+use entries::views::Entries;
+use pool::lent::PoolMut;
+use pool::{lowest_id, lowest_weight};
 use words::ids::Id;
-
-// What an eviction leaves: the counts, and how many went.
-#[derive(Clone, Copy)]
-pub struct Evicted {
-    pub counts: Counts,
-    pub n: usize,
-}
 
 // Whether the pool is full and a base does not reach past the lowest weight. Where no entry is left nothing is lowest.
 #[tactic(auto, using(crate::specs::Evictions::roomy, crate::specs::Evictions::crowded_none, crate::specs::Evictions::crowded_by))]
-pub fn is_crowded(entries: &[u64], counts: Counts, capacity: usize, base: u64) -> bool
-    requires { EntriesOk entries.now counts.pooled }
-    ensures { result ≡ crowded capacity base (entries_of entries.now counts.pooled) }
+pub fn is_crowded(entries: &Entries<'_>, capacity: usize, base: u64) -> bool
+    ensures { result ≡ crowded capacity base (entries_in entries.now) }
 {
-    capacity <= counts.pooled && (counts.pooled != 0 && base <= lowest_weight(entries, counts))
+    let n = entries.len();
+    capacity <= n && (n != 0 && base <= lowest_weight(entries))
 }
 
 // Writes an id to place `k`, where ids are to be written at all.
@@ -39,26 +33,23 @@ fn note_id(answer: &mut [u64], k: usize, id: Id, write: bool)
     }
 }
 
-// Takes out the lowest until at most `capacity` are left. Their ids are written from place `at` on, or not at all.
+// Takes out the lowest until at most `capacity` are left, and returns how many went. Their ids are written from place `at` on, or not at all.
 pub fn evict_to(
-    entries: &mut [u64],
-    boxes: &mut [u64],
-    counts: Counts,
+    pool: &mut PoolMut<'_>,
     capacity: usize,
     answer: &mut [u64],
     at: usize,
     write: bool,
-) -> Evicted
-    requires pool_fits { PoolFits entries.old boxes.old counts }
-    requires at_bound { at ≤ 5000 }
-    ensures pool_fits_2 { PoolFits entries.new boxes.new result.counts × (at + result.n ≤ cap) }
-    ensures evicts { PoolKept entries.old boxes.old counts → Evicts capacity at write (tables_of entries.old boxes.old counts) entries.new boxes.new result answer.old answer.new }
+) -> usize
+    requires { at ≤ 5000 }
+    ensures same { Same pool.old pool.new }
+    ensures upper_bound { at + result ≤ cap }
+    ensures evicts { KeptIn pool.old → Evicts capacity at write (tables_in pool.old) pool.new.entries.now pool.new.boxes.now pool.new.counts result answer.old answer.new }
 {
-    let n = counts.pooled.saturating_sub(capacity);
-    let mut left = counts;
+    let n = pool.counts.pooled.saturating_sub(capacity);
     for i in 0..n {
-        note_id(answer, at + i, lowest_id(entries, left), write);
-        left = evict_lowest(entries, boxes, left);
+        note_id(answer, at + i, lowest_id(&pool.entries()), write);
+        pool.evict_lowest();
     }
-    Evicted { counts: left, n }
+    n
 }

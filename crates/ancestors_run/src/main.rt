@@ -3,39 +3,38 @@
 #![tactic(auto)]
 
 use family_pools::{arrive, enter, nothing, show};
-use pool_types::Counts;
+use pool::lent::{Pool, PoolMut};
 use std::io;
 
 // Transactions 1 to n in a row, each spending what the one before it makes.
-fn in_a_row(entries: &mut [u64], boxes: &mut [u64], n: u64) -> Counts {
-    let mut counts = nothing();
+fn in_a_row(pool: &mut PoolMut<'_>, n: u64) {
     for i in 1..=n {
         let spent = [0, 0, 1, i - 1];
         let made = [0, 0, 1, i];
-        counts = enter(entries, boxes, counts, i, 10, &spent, &made);
+        enter(pool, i, 10, &spent, &made);
     }
-    counts
 }
 
 // The first and the last that were credited, the first and the last that were not, and the newcomer.
-fn show_ends(rt: &impl Print, entries: &[u64], boxes: &[u64], counts: Counts) -> io::Result<()> {
-    show(rt, entries, boxes, counts, 0)?;
-    show(rt, entries, boxes, counts, 499)?;
-    show(rt, entries, boxes, counts, 500)?;
-    show(rt, entries, boxes, counts, 599)?;
-    show(rt, entries, boxes, counts, 600)?;
+fn show_ends(rt: &impl Print, pool: &Pool<'_>) -> io::Result<()> {
+    show(rt, pool, 0)?;
+    show(rt, pool, 499)?;
+    show(rt, pool, 500)?;
+    show(rt, pool, 599)?;
+    show(rt, pool, 600)?;
     println!(rt; "")
 }
 
 // 600 of them, and newcomer 601 behind: the walk reaches 600 down to 101.
 fn ancestors(rt: &impl Print, entries: &mut [u64], boxes: &mut [u64]) -> io::Result<()> {
-    let row = in_a_row(entries, boxes, 600);
-    let all = arrive(entries, boxes, row, 601, &[0, 0, 1, 600], &[0, 0, 1, 601]);
+    let mut pool = nothing(entries, boxes);
+    in_a_row(&mut pool, 600);
+    arrive(&mut pool, 601, &[0, 0, 1, 600], &[0, 0, 1, 601]);
     print!(rt; "ancestors")?;
-    show_ends(rt, entries, boxes, all)
+    show_ends(rt, &pool.pool())
 }
 
-// Room for 601 entries and their records.
+// Room for 601 entries and their records. A store is lent and no heap is used, as everywhere.
 fn main(rt: HostRuntime) -> io::Result<()> {
     let mut entries = [0u64; 10820];
     let mut boxes = [0u64; 19541];

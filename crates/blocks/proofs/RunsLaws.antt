@@ -9,11 +9,9 @@ use Rattle.arguments.specs.Arguments.{records, field}
 use Rattle.entries.specs.Layout.{entries_of, EntriesKept}
 use Rattle.pool.specs.Pool.{Tables}
 use Rattle.blocks.specs.Blocks.{Progress, confirm_one, applied_tx, inputs_at}
-use Rattle.blocks.specs.Steps.{Doing, Does, safe-after, later, agreed-more, later_more}
-use Rattle.blocks.specs.declared.Removal.{Removal}
-use Rattle.blocks.specs.declared.Run.{Run}
+use Rattle.blocks.specs.Steps.{Removal, Doing, Does, safe-after, later, agreed-more, later_more}
 use Rattle.blocks.specs.declared.Seen.{Seen}
-use Rattle.blocks.specs.Runs.{seen_of, tallied, recorded-seen, spent-stats, confirm-stats, Come, Went, Passing}
+use Rattle.blocks.specs.Runs.{Run, seen_of, tallied, recorded-seen, spent-stats, confirm-stats, Come, Went, Passing}
 
 -- the statistics of one transaction
 applied-stats : (time k : ℕ) (bs : List ℕ) (m : Progress) (v : Option Seen) → v ≡ seen_of (found (λ e. e.id) k m.tables.entries) → (applied_tx time k bs m).stats ≡ tallied time v m.stats

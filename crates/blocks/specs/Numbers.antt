@@ -9,7 +9,8 @@ use Rattle.pool_types.specs.Outcomes.{Outcome, listed_of, refused, done, wrote, 
 use Rattle.boxes.specs.Among.{among}
 use Rattle.store.specs.Fits.{cache_fits}
 use Rattle.blocks.specs.Blocks.{readable, block_refusal}
-use Rattle.blocks.specs.Tests.{numbered, refusal_on, code_fits, code-unfit}
+use Rattle.pool_types.specs.Refusals.{numbered}
+use Rattle.blocks.specs.Tests.{refusal_on, code_fits, code-unfit}
 
 -- so many ids were written, or 20, 1 or 2
 unfoldable pub of_block : Outcome → Bool

@@ -1,10 +1,11 @@
 -- What a block leaves, as its contract says it: one record, of the words, the state and the statistics at exit, against a result of the definitions.
-use Rattle.std.specs.Prelude.{ℕ, ◌/◌, ◌≤◌, refl, None, Err, List, length}
+use Rattle.std.specs.Prelude.{ℕ, ◌/◌, ◌≤◌, refl, None, Result, Err, List, length}
 use Rattle.std.proofs.Math.Path.{◌≡◌, sym, ap}
 use Rattle.std.proofs.Common.{◌∙◌, eq-eqb, ne_eqb}
 use Rattle.std.proofs.Math.Bool.{true, false}
 use native.Mathlib.Omega.{arith}
 use Rattle.words.specs.Lists.{pick, yes, no}
+use Rattle.pool_types.specs.declared.Done.{Done}
 use Rattle.pool_types.specs.declared.Mempool.{Mempool}
 use Rattle.pool_types.specs.Refusals.{refusal_number}
 use Rattle.pool_types.specs.declared.Refusal.{Refusal}
@@ -18,12 +19,11 @@ use Rattle.store.specs.Fits.{Kept, cache_fits, cache-holds}
 use Rattle.store.specs.Spares.{Spares, lent, spares-same, spares-wrote}
 use Rattle.blocks.specs.Blocks.{Progress, applied_txs, confirmed_of, block_refusal, BlockResult, settled, begun, applied}
 use Rattle.blocks.specs.Steps.{Doing, later-all}
-use Rattle.blocks.specs.Tests.{numbered, refusal_on, code-none, code-unfit, code_fits}
-use Rattle.blocks.specs.Runs.{Running, Unchanged, finished}
+use Rattle.pool_types.specs.Refusals.{numbered}
+use Rattle.blocks.specs.Tests.{refusal_on, code-none, code-unfit, code_fits}
+use Rattle.blocks.specs.Runs.{Run, Running, finished}
 use Rattle.blocks.specs.Numbers.{of_block, removed-ours, any-ours}
 use Rattle.blocks.specs.declared.Applied.{Applied}
-use Rattle.blocks.specs.declared.Blocked.{Blocked}
-use Rattle.blocks.specs.declared.Run.{Run}
 
 -- what is to come of a block at `time` on these words and peer records, with an answer buffer of the words a
 abbrev pub result_of : List ℕ → List ℕ → List ℕ → List PeerRecord → List ℕ → Mempool → FeeStats → ℕ → List ℕ → List ℕ → BlockResult
@@ -49,7 +49,7 @@ BlockPromise e b k st s time txs ins e' b' k' a a' r =
     (ys : List PeerRecord) → Kept e b k ys st → Post st r e' b' k' ys a a' (result_of e b k ys a st s time txs ins)
 
 -- what was handed back, with the statistics as the caller finds them
-abbrev pub handed : Blocked → FeeStats → Applied
+abbrev pub handed : Done (Result ℕ Refusal) → FeeStats → Applied
 handed r s = record { mempool = r.mempool; stats = s; outcome = r.outcome }
 
 -- ---- the definitions' two ways: a refusal's number that is not 0 is the outcome; else the block is applied
@@ -64,7 +64,7 @@ module _ (st : Mempool) (w : World) (s : FeeStats) (room time : ℕ) (txs ins : 
   goes_on h = rw (← e) (yes _ _ _ (eq-eqb n 0 h))
 
 -- what the call promises, all of it
-pub record Promised (time : ℕ) (txs ins e b k a : List ℕ) (st : Mempool) (s : FeeStats) (e' b' k' a' : List ℕ) (r : Blocked) (x : FeeStats) : Type 0 where
+pub record Promised (time : ℕ) (txs ins e b k a : List ℕ) (st : Mempool) (s : FeeStats) (e' b' k' a' : List ℕ) (r : Done (Result ℕ Refusal)) (x : FeeStats) : Type 0 where
   pub promise : BlockPromise e b k st s time txs ins e' b' k' a a' (handed r x)
   pub ours : of_block (listed_of r.outcome) ≡ true
   pub spares : (ys : List PeerRecord) → Spares (listed_of r.outcome) (lent e b k ys a st) (lent e' b' k' ys a' r.mempool)
@@ -73,17 +73,16 @@ pub record Promised (time : ℕ) (txs ins e b k a : List ℕ) (st : Mempool) (s 
   pub placed : (n : ℕ) → listed_of r.outcome ≡ wrote n → n ≤ length a / 4
 
 -- refused: nothing changed
-module _ {time : ℕ} {txs ins e b k a : List ℕ} {st : Mempool} {s : FeeStats} {e' b' k' a' : List ℕ} {r : Refusal} (u : Unchanged e b k a e' b' k' a')
-    (q : refusal_number r ≡ refusal_on e b k st (length a / 4) txs ins) where
-  pub promised-refused : Promised time txs ins e b k a st s e' b' k' a' (record { mempool = st; outcome = Err r }) s
+module _ {time : ℕ} {txs ins e b k a : List ℕ} {st : Mempool} {s : FeeStats} {r : Refusal} (q : refusal_number r ≡ refusal_on e b k st (length a / 4) txs ins) where
+  pub promised-refused : Promised time txs ins e b k a st s e b k a (record { mempool = st; outcome = Err r }) s
   unfolding listed_of
   promised-refused =
       record {
         promise = λ ys f.
-            rw (stopped st (world_of e b k ys st) s (length a / 4) time txs ins (q ∙ code_fits e b k st (length a / 4) txs ins (cache-holds e b k st ys f.fits)) (numbered r), u.entries, u.boxes, u.cache, u.answer)
+            rw (stopped st (world_of e b k ys st) s (length a / 4) time txs ins (q ∙ code_fits e b k st (length a / 4) txs ins (cache-holds e b k st ys f.fits)) (numbered r))
             (record { kept = f; config = refl; pass = refl; outcome = refl; world = refl; stats = refl; wrote = wrote_nothing a 0; placed = omega arith });
         ours = any-ours e b k st (length a / 4) txs ins r q;
-        spares = λ ys. rw (u.entries, u.boxes, u.cache, u.answer) (spares-same (refused (refusal_number r) 0) (lent e b k ys a st));
+        spares = λ ys. spares-same (refused (refusal_number r) 0) (lent e b k ys a st);
         stats = λ _ _ _. refl;
         unfit = λ z. rw (q ∙ code-unfit e b k st (length a / 4) txs ins z);
         placed = λ n y. let o : ◌≡◌ {A = ℕ} 0 1 = cc in absurd (omega arith);
@@ -127,3 +126,11 @@ module _ {time : ℕ} {txs ins e b k a : List ℕ} {st : Mempool} {s : FeeStats}
         unfit = λ z. let y : false ≡ true = sym z ∙ (code-none e b k st (length a / 4) txs ins p.accepted).0 in let o : ◌≡◌ {A = ℕ} 0 1 = cc in absurd (omega arith);
         placed = λ n q. let o : r.left.written ≡ n = cc in omega (arith, p.sum, p.room);
       }
+
+  -- .. of the caller's words, which are the pool's
+  module _ {e'' b'' : List ℕ} {o : Done (Result ℕ Refusal)} (f : o ≡ finished st r) (u : e'' ≡ e') (v : b'' ≡ b') where
+    pub promise-there : BlockPromise e b k st s time txs ins e'' b'' k' a a' (handed o x)
+    promise-there = rw (f, u, v) promised.promise
+
+    pub spares-there : ((ys : List PeerRecord) → Spares (listed_of o.outcome) (lent e b k ys a st) (lent e'' b'' k' ys a' o.mempool)) × ((j i : ℕ) → listed_of o.outcome ≡ refused j i → x ≡ s)
+    spares-there = rw (f, u, v) (promised.spares, promised.stats)

@@ -1,14 +1,15 @@
 -- A block from one confirmation to the next. The code on plain words keeps no statistics: it tells what is to be recorded, and what is said of it here
 -- holds for all statistics and at each time.
-use Rattle.std.specs.Prelude.{Option, None, Some, Result, Ok, Err}
+use Rattle.std.specs.Prelude.{Option, None, Some, Result, Ok}
 use Rattle.std.specs.Prelude.{ℕ, suc, ◌+◌, ◌-◌, ◌/◌, ◌≤◌, ◌<◌, ◌≡◌, Bool, true, false, List, [], ◌∷◌, ◌++◌, eqb, length}
 use Rattle.std.proofs.Math.Path.{refl}
 use Rattle.std.proofs.Common.{sym, ap, ◌∙◌, arith}
 use Rattle.words.specs.Lists.{pick}
 use Rattle.words.specs.Find.{found}
 use Rattle.words.specs.Sums.{cap}
+use Rattle.pool_types.specs.declared.Counts.{Counts}
+use Rattle.pool_types.specs.declared.Done.{Done}
 use Rattle.pool_types.specs.declared.Mempool.{Mempool}
-use Rattle.pool_types.specs.Refusals.{refusal_number}
 use Rattle.pool_types.specs.declared.Refusal.{Refusal}
 use Rattle.arguments.specs.Arguments.{records}
 use Rattle.expiring_cache.specs.Layout.{CacheOk, CacheKept, Pruned}
@@ -18,15 +19,14 @@ use Rattle.entries.specs.Entries.{Entry, pooled, place_of}
 use Rattle.entries.specs.Laws.{at_place, no_place, place-fits}
 use Rattle.entries.specs.Layout.{entry_at, entries_of, entries}
 use Rattle.boxes.specs.Records.{index, lookup}
-use Rattle.pool.specs.Pool.{tables_of, PoolKept, remove_tx}
+use Rattle.pool.specs.Pool.{tables_of, PoolFits, PoolKept, remove_tx}
+use Rattle.pool.specs.declared.lent.PoolMut.{PoolMut}
 use Rattle.answers.specs.Answers.{wrote_nothing}
 use Rattle.store.specs.Fits.{Testable, cache-fits}
 use Rattle.blocks.specs.Blocks.{Progress, recorded, confirm_one, drive_out, rivals, spent_one, spent, applied_txs, confirmed_of}
-use Rattle.blocks.specs.Steps.{Safe, Doing, safe-none, Agreed, later, agreed-none, later-none, later-all}
+use Rattle.blocks.specs.Steps.{Removal, Safe, Doing, safe-none, Agreed, later, agreed-none, later-none, later-all}
 use Rattle.blocks.specs.Tests.{Passed, passed, refusal_on, code-none}
-use Rattle.blocks.specs.declared.Blocked.{Blocked}
-use Rattle.blocks.specs.declared.Removal.{Removal}
-use Rattle.blocks.specs.declared.Run.{Run}
+use Rattle.blocks.specs.declared.Run.{Run as CodeRun}
 use Rattle.blocks.specs.declared.Seen.{Seen}
 
 -- ---- what is to be recorded of an entry that was found, and the statistics with it
@@ -97,6 +97,20 @@ confirm-stats time k m = go (pooled k m.tables.entries) refl
     go false q = rw (unfound k m.tables.entries q)
 
 -- ---- what `next` asks for, and what it does
+
+-- what goes from one confirmation to the next: the code's `Run`, with how much of the tables is in use, which the code has in the pool
+pub record Run : Type 0 where
+  pub cached : ℕ
+  pub at : ℕ
+  pub from : ℕ
+  pub left : Removal
+  pub seen : Option Seen
+
+abbrev pub run_of : Counts → CodeRun → Run
+run_of c r = record { cached = r.cached; at = r.at; from = r.from; left = record { counts = c; written = r.written }; seen = r.seen }
+
+abbrev pub run_in : PoolMut → CodeRun → Run
+run_in p r = run_of p.counts r
 
 -- the tables are right, and the inputs from `from` on belong to what is left
 pub record Ready (e b txs ins : List ℕ) (g : Run) : Type 0 where
@@ -170,20 +184,8 @@ pub record Running (time : ℕ) (txs ins e b k a : List ℕ) (st : Mempool) (s :
   pub pruned : CacheKept k st.cached → Pruned k k' st.cached r.cached st.config.invalidation_ttl time
   pub come : PoolKept e b st.counts → Come txs ins r.at r.from time (tallied time r.seen x) (applied_txs time (confirmed_of txs ins) (begun_on e b st s)) e' b' a a' r.left
 
--- a refused block has changed nothing
-pub record Unchanged (e b k a e' b' k' a' : List ℕ) : Type 0 where
-  pub entries : e' ≡ e
-  pub boxes : b' ≡ b
-  pub cache : k' ≡ k
-  pub answer : a' ≡ a
-
--- the tests refuse it, or it runs, whatever the statistics are
-abbrev pub Begun : ℕ → List ℕ → List ℕ → List ℕ → List ℕ → List ℕ → List ℕ → Mempool → List ℕ → List ℕ → List ℕ → List ℕ → Result Run Refusal → Type 0
-Begun time txs ins e b k a st e' b' k' a' (Err r) = Unchanged e b k a e' b' k' a' × (refusal_number r ≡ refusal_on e b k st (length a / 4) txs ins)
-Begun time txs ins e b k a st e' b' k' a' (Ok g) = (s : FeeStats) → Running time txs ins e b k a st s e' b' k' a' g s
-
 -- what is handed back, once nothing is left to be recorded
-unfoldable pub finished : Mempool → Run → Blocked
+unfoldable pub finished : Mempool → Run → Done (Result ℕ Refusal)
 finished st r =
     record {
       mempool = record { config = st.config; counts = r.left.counts; cached = r.cached; sums = record { interblock_cost = 0; peers = 0 }; pass = st.pass };
@@ -191,10 +193,6 @@ finished st r =
     }
 
 -- ---- it begins, goes on, and how much is left
-
-pub begun-refused : (time : ℕ) (txs ins e b k a : List ℕ) (st : Mempool) (room : ℕ) (r : Refusal) → room ≡ length a / 4 → refusal_number r ≡ refusal_on e b k st room txs ins
-    → Begun time txs ins e b k a st e b k a (Err r)
-begun-refused time txs ins e b k a st room r l q = (record { entries = refl; boxes = refl; cache = refl; answer = refl }, rw (← l) q)
 
 -- the tests refuse nothing
 module _ (txs ins e b k : List ℕ) (st : Mempool) (room : ℕ) (z : refusal_on e b k st room txs ins ≡ 0) where
@@ -206,6 +204,9 @@ module _ (txs ins e b k : List ℕ) (st : Mempool) (room : ℕ) (z : refusal_on 
 
   pub begin-cache : CacheOk k st.cached
   begin-cache = fitted.cache
+
+  pub begin-pool : PoolFits e b st.counts
+  begin-pool = fitted.pool
 
   pub begin-ready : (c : ℕ) (g : Run) → g ≡ fresh st c → length e ≤ cap → Ready e b txs ins g
   unfolding fresh

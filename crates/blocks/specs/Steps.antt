@@ -1,6 +1,6 @@
 -- A block step by step: what the code carries from one to the next, against what the definitions say that it has come to.
 use Prim.Native.Nat.{ℕ, suc, ◌+◌, ◌-◌, ◌*◌, ◌≤◌, ◌<◌}
-use Rattle.std.specs.Prelude.{◌≡◌, refl, Bool, eqb, length}
+use Rattle.std.specs.Prelude.{◌≡◌, refl, Bool, eqb, length, take, drop}
 use Rattle.std.proofs.Math.Path.{sym, ap}
 use Rattle.std.proofs.Common.{◌∙◌, zero-add, length-append, eqb-true}
 use Rattle.std.proofs.Math.Bool.{true, false}
@@ -22,14 +22,23 @@ use Rattle.entries.specs.Layout.{entries_of, entries, ok-bound}
 use Rattle.boxes.specs.Records.{index, lookup, drop_owner}
 use Rattle.boxes.specs.Layout.{boxes_of}
 use Rattle.boxes.specs.Index.{BoxesKept}
-use Rattle.boxes.specs.Flat.{count_of, ids}
+use Rattle.boxes.specs.Flat.{count_of, ids_of, ids}
+use Rattle.boxes.specs.declared.lists.Ids.{Ids}
 use Rattle.pool.specs.Pool.{Tables, tables_of, PoolFits, PoolKept, Fewer, Left, remove_tx}
 use Rattle.pool.specs.Laws.{as_many, fewer}
+use Rattle.pool.specs.declared.lent.PoolMut.{PoolMut}
 use Rattle.answers.specs.Answers.{Wrote, wrote-both}
 use Rattle.blocks.specs.Blocks.{Progress, recorded, confirm_one, drive_out, rivals, spent_one, spent, applied_tx, applied_txs, inputs_at, confirmed_from, confirmed_of}
-use Rattle.blocks.specs.declared.Removal.{Removal}
 
 -- ---- what a step asks for, and what it does
+
+-- what goes from step to step beside the words: how much of the tables is in use, which the code has in the pool, and how many ids were written
+pub record Removal : Type 0 where
+  pub counts : Counts
+  pub written : ℕ
+
+abbrev pub removal : PoolMut → ℕ → Removal
+removal p n = record { counts = p.counts; written = n }
 
 -- the counts fit the words, and no more can be written than a word counts
 pub record Safe (e b : List ℕ) (g : Removal) : Type 0 where
@@ -103,11 +112,7 @@ module _ (k : ℕ) (e b a e' b' : List ℕ) (g : Removal) (c : Counts) (f : Fewe
             rw z (record { kept = o.kept; tables = o.tables ∙ rw q d.tables; wrote = d.wrote; count = d.count });
       }
 
-  -- fewer: there is a number for one more
-  pub one_more : Safe e b g → (c.pooled ≡ g.counts.pooled → ⊥) → g.written + 1 ≤ cap
-  one_more s h = omega (arith, h, f.entries, s.few)
-
-  -- .. it was, and it is written behind the others
+  -- fewer: it was, and it is written behind the others
   pub does-leave : (a' : List ℕ) (n r : ℕ) → (c.pooled ≡ g.counts.pooled → ⊥) → n ≡ g.written → r ≡ g.written + 1 → Wrote a a' n (k ∷ [])
       → Does (drive_out k) e b a g e' b' a' (record { counts = c; written = r })
   unfolding drive_out
@@ -211,22 +216,30 @@ turn-all t q =
       does = λ a₀ m i. let x = t.reached a₀ m i in rw (sym (q x.here) ∙ x.same) at x.doing;
     }
 
--- ---- the inputs from j on and before `to`
+-- ---- the inputs from j on and before `to`, of a list of any width
 
-module _ (ins : List ℕ) (j to : ℕ) where
-  inputs-more : j < to → to ≤ count_of 4 ins → inputs_at ins j (to - j) ≡ id_at ins (j * 4) ∷ inputs_at ins (j + 1) (to - (j + 1))
-  unfolding inputs_at
+-- so many ids from j on
+abbrev pub inputs_in : Ids → ℕ → ℕ → List ℕ
+inputs_in l j n = take n (drop j (ids_of l.width l.words.now))
+
+-- in a block's list of inputs each has four words
+pub inputs-four : (l : Ids) {ins : List ℕ} (j n : ℕ) → l.words.now ≡ ins → l.width ≡ 4 → inputs_in l j n ≡ inputs_at ins j n
+unfolding inputs_at
+inputs-four l j n p q = rw (p, q)
+
+module _ (w : ℕ) (ins : List ℕ) (j to : ℕ) where
+  inputs-more : j < to → to ≤ count_of w ins → take (to - j) (drop j (ids_of w ins)) ≡ id_at ins (j * w) ∷ take (to - (j + 1)) (drop (j + 1) (ids_of w ins))
   inputs-more h l =
       let e : to - j ≡ suc (to - (j + 1)) = omega arith in
-      rw (e, drop_of (ids 4) ins (count_of 4 ins) j (omega arith))
+      rw (e, drop_of (ids w) ins (count_of w ins) j (omega arith))
 
-  pub spent-more : (k x : ℕ) → j < to → to ≤ count_of 4 ins → x ≡ id_at ins (j * 4) → (m : Progress)
-      → spent k (inputs_at ins (j + 1) (to - (j + 1))) (spent_one k x m) ≡ spent k (inputs_at ins j (to - j)) m
+  pub spent-more : (k x : ℕ) → j < to → to ≤ count_of w ins → x ≡ id_at ins (j * w) → (m : Progress)
+      → spent k (take (to - (j + 1)) (drop (j + 1) (ids_of w ins))) (spent_one k x m) ≡ spent k (take (to - j) (drop j (ids_of w ins))) m
   unfolding spent
   spent-more k x h l q m = rw (inputs-more h l, q)
 
-  pub spent_all : (k : ℕ) → to ≤ j → (m : Progress) → spent k (inputs_at ins j (to - j)) m ≡ m
-  unfolding spent inputs_at
+  pub spent_all : (k : ℕ) → to ≤ j → (m : Progress) → spent k (take (to - j) (drop j (ids_of w ins))) m ≡ m
+  unfolding spent
   spent_all k h m = let e : to - j ≡ 0 = omega arith in rw e
 
 -- ---- the transactions from i on, whose inputs begin at j

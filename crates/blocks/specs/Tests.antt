@@ -3,9 +3,6 @@ use Rattle.std.specs.Prelude.{ℕ, ◌+◌, ◌≤◌, ◌≡◌, refl, Bool, tr
 use Rattle.std.proofs.Common.{arith, ltb-false}
 use Rattle.words.specs.Lists.{pick}
 use Rattle.pool_types.specs.declared.Mempool.{Mempool}
-use Rattle.pool_types.specs.Refusals.{refusal_number}
-use Rattle.pool_types.specs.declared.Refusal.{Refusal}
-use Rattle.pool_types.specs.declared.Refusal.TheVariants.{Lists, AnswerTooSmall, Size, FeeSum, Cost, Settings, TooManyInputs, HeightAhead, InvalidVerdict, FeeBelowMinimum, Bins, PassOpen, NoPass, HeldInvalid, AlreadyPooled, BlockLimit, PeerLimit, NoPeerRecord, NoRoom, InputNotFound, DoubleSpend, PoolFull}
 use Rattle.arguments.specs.Arguments.{whole, counts_agree}
 use Rattle.store.specs.Fits.{cache_fits, un_not}
 use Rattle.blocks.specs.Blocks.{readable, block_refusal}
@@ -34,31 +31,6 @@ passed st room txs ins h =
     record { agree = last_of (whole 5 txs) (whole 4 ins) (counts_agree txs ins) (un_not (readable txs ins) q.0); room = ltb-false room (st.counts.pooled + 1) r.0 }
 
 -- ---- the refusals on any words
-
--- no refusal's number is 0
-pub numbered : (r : Refusal) → refusal_number r ≡ 0 → ⊥
-numbered Lists e = omega arith
-numbered AnswerTooSmall e = omega arith
-numbered Size e = omega arith
-numbered FeeSum e = omega arith
-numbered Cost e = omega arith
-numbered Settings e = omega arith
-numbered TooManyInputs e = omega arith
-numbered HeightAhead e = omega arith
-numbered InvalidVerdict e = omega arith
-numbered FeeBelowMinimum e = omega arith
-numbered Bins e = omega arith
-numbered PassOpen e = omega arith
-numbered NoPass e = omega arith
-numbered HeldInvalid e = omega arith
-numbered AlreadyPooled e = omega arith
-numbered BlockLimit e = omega arith
-numbered PeerLimit e = omega arith
-numbered NoPeerRecord e = omega arith
-numbered NoRoom e = omega arith
-numbered InputNotFound e = omega arith
-numbered DoubleSpend e = omega arith
-numbered PoolFull e = omega arith
 
 -- where the counts do not fit, 20 or 1
 unfoldable pub refusal_on : List ℕ → List ℕ → List ℕ → Mempool → ℕ → List ℕ → List ℕ → ℕ

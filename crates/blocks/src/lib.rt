@@ -1,60 +1,49 @@
 // A block: the transactions that it confirms leave the pool and are counted in the statistics, those that spend a confirmed input leave too, and
 // the charges begin anew. The store is plain words that the caller lends, the statistics are lent and changed in place, the state goes in and out by
-// value.
+// value. Once the counts were found to fit, the pool goes from step to step as one struct.
 #![tactic(auto)]
 
-ghost use Rattle.std.specs.Prelude.{◌≡◌, true, false, List, ℕ, ◌-◌, ◌/◌, ◌≤◌, length};
+ghost use Rattle.std.specs.Prelude.{◌≡◌, true, false, List, ℕ, ◌+◌, ◌-◌, ◌/◌, ◌≤◌, length};
 ghost use Rattle.words.specs.Lists.{pick};
 ghost use Rattle.words.specs.Ids.{id_of};
 ghost use Rattle.words.specs.Find.{found};
+ghost use Rattle.words.specs.Sums.{cap};
 ghost use Rattle.pool_types.specs.Outcomes.{listed_of, refused, wrote};
 ghost use Rattle.pool_types.specs.Refusals.{code_of};
+ghost use Rattle.pool_types.specs.declared.Mempool.{Mempool};
+ghost use Rattle.expiring_cache.specs.Layout.{CacheOk, CacheKept, Pruned};
 ghost use Rattle.stats.specs.declared.FeeStats.{FeeStats};
 ghost use Rattle.peers.specs.declared.PeerRecord.{PeerRecord};
-ghost use Rattle.entries.specs.Layout.{EntriesOk, EntriesKept, entries_of};
-ghost use Rattle.boxes.specs.Flat.{count_of};
+ghost use Rattle.entries.specs.Layout.{EntriesKept, entries_of};
+ghost use Rattle.boxes.specs.Views.{count_in};
+ghost use Rattle.pool.specs.Lent.{Same};
 ghost use Rattle.store.specs.Fits.{cache_fits};
 ghost use Rattle.store.specs.Spares.{Spares, lent};
-ghost use Rattle.blocks.specs.Blocks.{drive_out, spent_one, spent, applied_tx, inputs_at, readable, block_refusal};
-ghost use Rattle.blocks.specs.Steps.{Safe, Does};
+ghost use Rattle.blocks.specs.Blocks.{drive_out, spent_one, spent, applied_tx, readable, block_refusal};
+ghost use Rattle.blocks.specs.Steps.{Does, removal, inputs_in};
 ghost use Rattle.blocks.specs.Tests.{refusal_on};
-ghost use Rattle.blocks.specs.Runs.{seen_of, fresh, Ready, Went, Begun, finished};
+ghost use Rattle.blocks.specs.Runs.{seen_of, run_of, run_in, fresh, Ready, Went, finished};
 ghost use Rattle.blocks.specs.Post.{BlockPromise, handed};
 ghost use Rattle.blocks.specs.Numbers.{of_block};
 
 use answers::write_id;
 use arguments::{counts_agree, is_whole};
-use boxes::lists::id_at;
-use entries::fields::{base_at, created_at};
-use entries::table::find_entry;
-use expiring_cache::prune;
+use boxes::lists::Ids;
+use entries::views::Entries;
+use expiring_cache::ExpiringCacheMut;
 use indexes::owners::spender;
-use pool::remove;
-use pool_types::{Counts, Mempool, Refusal, Sums};
+use pool::lent::PoolMut;
+use pool_types::{Counts, Done, Mempool, Refusal, Sums};
 use stats::{FeeStats, record_confirmation};
 use store::{fits_cache, unfit};
 use words::ids::Id;
 
-// What a block hands back: the state, and what it answers.
-#[derive(Clone, Copy)]
-pub struct Blocked {
-    pub mempool: Mempool,
-    pub outcome: Result<usize, Refusal>,
-}
-
-// .. and the statistics, where they go in and out by value.
+// What a block hands back where the statistics go in and out by value.
 #[derive(Clone, Copy)]
 pub struct Applied {
     pub mempool: Mempool,
     pub stats: FeeStats,
     pub outcome: Result<usize, Refusal>,
-}
-
-// What goes from step to step: how much of the tables is in use, and how many ids were written.
-#[derive(Clone, Copy)]
-struct Removal {
-    counts: Counts,
-    written: usize,
 }
 
 // What is recorded of a transaction that was pooled: when it was made, and its base weight.
@@ -64,147 +53,137 @@ struct Seen {
     base: u64,
 }
 
-// What goes from one confirmation to the next: how many ids the cache holds; the next transaction of the block and its first input; what the steps so
-// far left; and what is to be recorded.
+// What goes from one confirmation to the next: how many ids the cache holds; the next transaction of the block and its first input; how many ids were
+// written so far; and what is to be recorded.
 #[derive(Clone, Copy)]
 struct Run {
     cached: usize,
     at: usize,
     from: usize,
-    left: Removal,
+    written: usize,
     seen: Option<Seen>,
 }
 
-// ---- one transaction
+// ---- one transaction. Each step takes how many ids were written, and returns how many are then.
 
-// Takes a pooled transaction out and writes its id. One that is not pooled changes nothing, and the count of entries says so.
-fn take_out(
-    entries: &mut [u64],
-    boxes: &mut [u64],
-    answer: &mut [u64],
-    done: Removal,
-    id: Id,
-) -> Removal
-    requires { Safe entries.old boxes.old done }
-    ensures { Does (drive_out (id_of id)) entries.old boxes.old answer.old done entries.new boxes.new answer.new result }
+// Takes a pooled transaction out and writes its id. One that is not pooled changes nothing.
+fn take_out(pool: &mut PoolMut<'_>, answer: &mut [u64], written: usize, id: Id) -> usize
+    requires { written + pool.old.counts.pooled ≤ cap }
+    ensures same { Same pool.old pool.new }
+    ensures does { Does (drive_out (id_of id)) pool.old.entries.now pool.old.boxes.now answer.old (removal pool.old written)
+        pool.new.entries.now pool.new.boxes.now answer.new (removal pool.new result) }
 {
-    let before = done.counts;
-    let counts = remove(entries, boxes, before, id);
-    if counts.pooled == before.pooled {
-        return Removal { counts, ..done };
+    let pooled = pool.remove(id);
+    if !pooled {
+        return written;
     }
-    write_id(answer, done.written, id);
-    Removal {
-        counts,
-        written: done.written + 1,
-    }
+    write_id(answer, written, id);
+    written + 1
 }
 
 // What the statistics are to know of a transaction, if it is pooled.
-#[tactic(auto, using(crate::specs::Runs::seen_there, crate::specs::Runs::seen_nowhere), unfolding(entries::specs::Layout::EntriesOk))]
-fn look(entries: &[u64], pooled: usize, id: Id) -> Option<Seen>
-    requires { EntriesOk entries.now pooled }
-    ensures { EntriesKept entries.now pooled → result ≡ seen_of (found (λ x. x.id) (id_of id) (entries_of entries.now pooled)) }
+#[tactic(auto, using(crate::specs::Runs::seen_there, crate::specs::Runs::seen_nowhere))]
+fn look(entries: &Entries<'_>, id: Id) -> Option<Seen>
+    ensures { EntriesKept entries.now.words.now entries.now.pooled → result ≡ seen_of (found (λ x. x.id) (id_of id) (entries_of entries.now.words.now entries.now.pooled)) }
 {
-    let i = find_entry(entries, pooled, id)?;
+    let i = entries.find(id)?;
     Some(Seen {
-        created: created_at(entries, i),
-        base: base_at(entries, i),
+        created: entries.created_at(i),
+        base: entries.base_at(i),
     })
 }
 
 // A box that transaction `id` spends: another one that spends it leaves. It was not confirmed, so it is not recorded.
-fn drive_out(
-    entries: &mut [u64],
-    boxes: &mut [u64],
-    answer: &mut [u64],
-    done: Removal,
-    id: Id,
-    key: Id,
-) -> Removal
-    requires { Safe entries.old boxes.old done }
-    ensures { Does (spent_one (id_of id) (id_of key)) entries.old boxes.old answer.old done entries.new boxes.new answer.new result }
+fn drive_out(pool: &mut PoolMut<'_>, answer: &mut [u64], written: usize, id: Id, key: Id) -> usize
+    requires { written + pool.old.counts.pooled ≤ cap }
+    ensures same { Same pool.old pool.new }
+    ensures does { Does (spent_one (id_of id) (id_of key)) pool.old.entries.now pool.old.boxes.now answer.old (removal pool.old written)
+        pool.new.entries.now pool.new.boxes.now answer.new (removal pool.new result) }
 {
-    let counts = done.counts;
-    let owner = spender(boxes, counts.records, key);
-    match owner {
+    match spender(&pool.boxes(), key) {
         Some(other) => {
             if other == id {
-                return done;
+                return written;
             }
-            take_out(entries, boxes, answer, done, other)
+            take_out(pool, answer, written, other)
         }
-        None => done,
+        None => written,
     }
 }
 
 // The inputs of transaction `id`, one after the other: those of the list from `from` on and before `to`.
 fn spend_inputs(
-    entries: &mut [u64],
-    boxes: &mut [u64],
+    pool: &mut PoolMut<'_>,
     answer: &mut [u64],
-    done: Removal,
+    written: usize,
     id: Id,
-    inputs: &[u64],
+    inputs: &Ids<'_>,
     from: usize,
     to: usize,
-) -> Removal
-    requires safe { Safe entries.old boxes.old done }
-    requires to_bound { to ≤ count_of 4 inputs.now }
-    ensures { Does (spent (id_of id) (inputs_at inputs.now from (to - from))) entries.old boxes.old answer.old done entries.new boxes.new answer.new result }
+) -> usize
+    requires written_bound { written + pool.old.counts.pooled ≤ cap }
+    requires to_bound { to ≤ count_in inputs.now }
+    ensures same { Same pool.old pool.new }
+    ensures does { Does (spent (id_of id) (inputs_in inputs.now from (to - from))) pool.old.entries.now pool.old.boxes.now answer.old (removal pool.old written)
+        pool.new.entries.now pool.new.boxes.now answer.new (removal pool.new result) }
 {
-    let mut left = done;
+    let mut left = written;
     for j in from..to {
-        left = drive_out(entries, boxes, answer, left, id, id_at(inputs, 4, j));
+        left = drive_out(pool, answer, left, id, inputs.id_at(j));
     }
     left
 }
 
 // A confirmed transaction with its inputs: it leaves first, if it is pooled, then those that it drives out.
 fn apply_tx(
-    entries: &mut [u64],
-    boxes: &mut [u64],
+    pool: &mut PoolMut<'_>,
     answer: &mut [u64],
-    done: Removal,
+    written: usize,
     id: Id,
-    inputs: &[u64],
+    inputs: &Ids<'_>,
     from: usize,
     to: usize,
-) -> Removal
-    requires safe { Safe entries.old boxes.old done }
-    requires to_bound { to ≤ count_of 4 inputs.now }
-    ensures { (time : ℕ) → Does (applied_tx time (id_of id) (inputs_at inputs.now from (to - from))) entries.old boxes.old answer.old done entries.new boxes.new answer.new result }
+) -> usize
+    requires written_bound { written + pool.old.counts.pooled ≤ cap }
+    requires to_bound { to ≤ count_in inputs.now }
+    ensures same { Same pool.old pool.new }
+    ensures does { (time : ℕ) → Does (applied_tx time (id_of id) (inputs_in inputs.now from (to - from))) pool.old.entries.now pool.old.boxes.now answer.old (removal pool.old written)
+        pool.new.entries.now pool.new.boxes.now answer.new (removal pool.new result) }
 {
-    let next = take_out(entries, boxes, answer, done, id);
-    spend_inputs(entries, boxes, answer, next, id, inputs, from, to)
+    let next = take_out(pool, answer, written, id);
+    spend_inputs(pool, answer, next, id, inputs, from, to)
 }
 
-// Goes on to the next transaction of a block that is pooled, or to the end. Their numbers of inputs add up to the inputs, so each one's are there.
+// Goes on to the next transaction of a block that is pooled, or to the end. Their numbers of inputs add up to the inputs, so each one's are there:
+// a fact of the lists and the run together, which no type of one of them holds.
 fn next(
-    entries: &mut [u64],
-    boxes: &mut [u64],
+    pool: &mut PoolMut<'_>,
     answer: &mut [u64],
     transactions: &[u64],
     inputs: &[u64],
     run: Run,
 ) -> Run
-    requires { Ready entries.old boxes.old transactions.now inputs.now run }
-    ensures { Went transactions.now inputs.now entries.old boxes.old answer.old run entries.new boxes.new answer.new result }
+    requires { Ready pool.old.entries.now pool.old.boxes.now transactions.now inputs.now (run_in pool.old run) }
+    ensures same { Same pool.old pool.new }
+    ensures went { Went transactions.now inputs.now pool.old.entries.now pool.old.boxes.now answer.old (run_in pool.old run)
+        pool.new.entries.now pool.new.boxes.now answer.new (run_in pool.new result) }
 {
-    let n = transactions.len() / 5;
-    let mut left = run.left;
+    let ids = Ids::new(transactions, 5);
+    let boxes = Ids::new(inputs, 4);
+    let n = ids.len();
+    let mut written = run.written;
     let mut from = run.from;
     for i in run.at..n {
         let to = from + transactions[i * 5 + 4] as usize;
-        let id = id_at(transactions, 5, i);
-        let seen = look(entries, left.counts.pooled, id);
-        left = apply_tx(entries, boxes, answer, left, id, inputs, from, to);
+        let id = ids.id_at(i);
+        let seen = look(&pool.entries(), id);
+        written = apply_tx(pool, answer, written, id, &boxes, from, to);
         from = to;
         if seen.is_some() {
             return Run {
                 at: i + 1,
                 from,
-                left,
+                written,
                 seen,
                 ..run
             };
@@ -213,7 +192,7 @@ fn next(
     Run {
         at: n,
         from,
-        left,
+        written,
         seen: None,
         ..run
     }
@@ -272,62 +251,48 @@ fn refusal(
 
 // ---- the call
 
+// Prunes the cache at the time of the block, and returns how many ids it holds then. The call lends the cache's words, so that its struct is made here.
+fn prune(cache: &mut [u64], mempool: Mempool, time: u64) -> usize
+    requires { CacheOk cache.old mempool.cached }
+    ensures same_length { length cache.new ≡ length cache.old }
+    ensures pruned { CacheKept cache.old mempool.cached → Pruned cache.old cache.new mempool.cached result mempool.config.invalidation_ttl time }
+{
+    let mut known = ExpiringCacheMut::new(cache, mempool.cached);
+    known.prune(mempool.config.invalidation_ttl, time);
+    known.len()
+}
+
 // A block before its first transaction, on a cache that holds so many ids.
 #[tactic(auto, unfolding(crate::specs::Runs::fresh))]
-fn fresh(mempool: Mempool, cached: usize) -> Run
-    ensures { result ≡ fresh mempool cached }
+fn fresh(cached: usize) -> Run
+    ensures { (st : Mempool) → run_of st.counts result ≡ fresh st cached }
 {
-    let counts = mempool.counts;
     Run {
         cached,
         at: 0,
         from: 0,
-        left: Removal { counts, written: 0 },
+        written: 0,
         seen: None,
     }
 }
 
-// The tests, and where none refuses, the cache is pruned and the block goes on to its first transaction that is pooled.
-fn begin(
-    entries: &mut [u64],
-    boxes: &mut [u64],
-    cache: &mut [u64],
-    answer: &mut [u64],
-    mempool: Mempool,
-    time: u64,
-    transactions: &[u64],
-    inputs: &[u64],
-) -> Result<Run, Refusal>
-    ensures { Begun time transactions.now inputs.now entries.old boxes.old cache.old answer.old mempool
-        entries.new boxes.new cache.new answer.new result }
-{
-    let room = answer.len() / 4;
-    refusal(entries, boxes, cache, mempool, room, transactions, inputs)?;
-    let ttl = mempool.config.invalidation_ttl;
-    let cached = prune(cache, mempool.cached, ttl, time);
-    let run = fresh(mempool, cached);
-    Ok(next(entries, boxes, answer, transactions, inputs, run))
-}
-
 // What is handed back of a block that was applied: the charges begin anew.
 #[tactic(auto, unfolding(crate::specs::Runs::finished))]
-fn finish(mempool: Mempool, run: Run) -> Blocked
-    ensures { result ≡ finished mempool run }
+fn finish(mempool: Mempool, counts: Counts, run: Run) -> Done<Result<usize, Refusal>>
+    ensures { result ≡ finished mempool (run_of counts run) }
 {
-    let left = run.left;
-    let counts = left.counts;
     let sums = Sums {
         interblock_cost: 0,
         peers: 0,
     };
-    Blocked {
+    Done {
         mempool: Mempool {
             counts,
             cached: run.cached,
             sums,
             ..mempool
         },
-        outcome: Ok(left.written),
+        outcome: Ok(run.written),
     }
 }
 
@@ -343,7 +308,7 @@ pub fn apply_block_at(
     time: u64,
     transactions: &[u64],
     inputs: &[u64],
-) -> Blocked
+) -> Done<Result<usize, Refusal>>
     ensures block_promise { BlockPromise entries.old boxes.old cache.old mempool stats.old time transactions.now inputs.now
         entries.new boxes.new cache.new answer.old answer.new (handed result stats.new) }
     ensures outcome_value { of_block (listed_of result.outcome) ≡ true }
@@ -353,30 +318,25 @@ pub fn apply_block_at(
     ensures outcome_value_2 { cache_fits entries.old boxes.old cache.old mempool ≡ false → listed_of result.outcome ≡ refused (pick mempool.pass.open 20 1) 0 }
     ensures by_index_2 { (n : ℕ) → listed_of result.outcome ≡ wrote n → n ≤ length answer.old / 4 }
 {
-    let begun = begin(
+    let room = answer.len() / 4;
+    if let Err(refusal) = refusal(entries, boxes, cache, mempool, room, transactions, inputs) {
+        return Done {
+            mempool,
+            outcome: Err(refusal),
+        };
+    }
+    let cached = prune(cache, mempool, time);
+    let mut pool = PoolMut {
         entries,
         boxes,
-        cache,
-        answer,
-        mempool,
-        time,
-        transactions,
-        inputs,
-    );
-    let mut run = match begun {
-        Ok(run) => run,
-        Err(refusal) => {
-            return Blocked {
-                mempool,
-                outcome: Err(refusal),
-            };
-        }
+        counts: mempool.counts,
     };
+    let mut run = next(&mut pool, answer, transactions, inputs, fresh(cached));
     while let Some(seen) = run.seen {
         record_confirmation(stats, time, seen.created, seen.base);
-        run = next(entries, boxes, answer, transactions, inputs, run);
+        run = next(&mut pool, answer, transactions, inputs, run);
     }
-    finish(mempool, run)
+    finish(mempool, pool.counts, run)
 }
 
 // The same, for callers that hold the statistics by value, as the C interface reads and stores them.

@@ -1,5 +1,4 @@
 pub mod Checks
-pub mod Laws
 pub mod Passed
 pub mod Edges
 pub mod Exactly

@@ -1,17 +1,16 @@
 -- What a submission that passed every test is known to be: what the steps after the tests rest on.
 use Rattle.peers.specs.Peers.{Standing}
-use Rattle.std.specs.Prelude.{Some}
 use Rattle.std.specs.Prelude.{ℕ, ◌+◌, ◌≤◌, ◌<◌, ◌≡◌, refl, Bool, true, false, ◌&&◌, List, T, eqb, ltb}
 use Rattle.std.proofs.Common.{sym, ap, ◌∙◌, arith, lit<}
-use borrow.Author.Tests.{ltb-false, leb-false, eqb-true, eqb-false, not-false, le-ltb}
-use Rattle.words.specs.Lists.{pick, yes, no}
+use borrow.Author.Tests.{ltb-false, leb-false, eqb-true, eqb-false, not-false}
+use Rattle.words.specs.Lists.{pick, yes}
 use Rattle.words.specs.Sums.{cap}
 use Rattle.words.specs.Ids.{id_of}
 use Rattle.pool_types.specs.declared.Mempool.{Mempool}
 use Rattle.pool_types.specs.declared.Submission.{Submission}
 use Rattle.pool_types.specs.declared.Verdict.{Verdict}
 use Rattle.pool_types.specs.declared.Verdict.TheVariants.{Valid}
-use Rattle.arguments.specs.Arguments.{whole, records, fee_of, fee_sum}
+use Rattle.arguments.specs.Arguments.{whole, records, fee_of}
 use Rattle.expiring_cache.specs.Cache.{Held, held}
 use Rattle.peers.specs.Peers.{at_limit, none_free}
 use Rattle.entries.specs.Entries.{Entry, pooled}
@@ -150,8 +149,3 @@ unpooled most E R st room t rows at a ins outs h =
     let p = both_zero (call_refusal st room a ins outs) (first (state_refusal st rows t.entries at a) (list_refusal most E R t a ins outs)) h in
     let q = both_zero (state_refusal st rows t.entries at a) (list_refusal most E R t a ins outs) p.1 in
     (unopposed st rows t.entries at a q.0).0
-
--- so the fee is the sum that `extract_fee` gives
-pub fee-sum : (outs : List ℕ) → fee_of outs ≤ cap → fee_sum outs ≡ Some (fee_of outs)
-unfolding fee_sum
-fee-sum outs h = no _ _ _ (le-ltb cap (fee_of outs) h)

@@ -5,23 +5,25 @@ ghost use Rattle.std.specs.Prelude.{◌≡◌, true, false, ◌&&◌, ◌∷◌,
 ghost use Rattle.words.specs.Sums.{cap};
 ghost use Rattle.pool_types.specs.Refusals.{code_of};
 ghost use Rattle.arguments.specs.Arguments.{whole, records, max_inputs, fee_of, height_key, ahead_of};
-ghost use Rattle.expiring_cache.specs.Layout.{CacheOk, CacheKept, cache_of};
-ghost use Rattle.entries.specs.Layout.{EntriesOk, EntriesKept, entries_of, entries_room};
+ghost use Rattle.expiring_cache.specs.Layout.{CacheKept, cache_of};
+ghost use Rattle.entries.specs.Layout.{EntriesKept, entries_room};
+ghost use Rattle.entries.specs.Views.{entries_in};
 ghost use Rattle.boxes.specs.Layout.{boxes_room};
 ghost use Rattle.boxes.specs.Index.{BoxesKept};
 ghost use Rattle.boxes.specs.Among.{among};
-ghost use Rattle.pool.specs.Pool.{PoolFits, Room, tables_of, no_room};
+ghost use Rattle.pool.specs.Pool.{Room, tables_of};
 ghost use Rattle.checks.specs.Checks.{dear, remote, call_refusal, peer_refusal, state_refusal, list_refusal, refusal_of};
 ghost use Rattle.checks.specs.Passed.{Welcome, Passed};
 ghost use Rattle.checks.specs.Numbers.{refusals};
 ghost use Rattle.store.specs.Fits.{Testable, Indexed};
 
 use arguments::{are_whole, count_records, extract_fee, height_key, height_order};
-use entries::table::is_pooled;
-use expiring_cache::contains;
+use entries::views::Entries;
+use expiring_cache::ExpiringCache;
 use indexes::resolved::inputs_resolved;
 use peers::{Standing, at_limit, none_free};
-use pool_types::{Mempool, Refusal, Source, Submission, Verdict};
+use pool::lent::Pool;
+use pool_types::{Lists, Mempool, Refusal, Source, Submission, Verdict};
 use store::lacks_room;
 
 // The greatest size.
@@ -59,16 +61,15 @@ fn check_call(
     mempool: Mempool,
     room: usize,
     sub: Submission,
-    inputs: &[u64],
-    outputs: &[u64],
+    lists: &Lists<'_>,
 ) -> Result<(), Refusal>
     ensures refusals_value { among (code_of result) (0 ∷ refusals) ≡ true }
-    ensures value { code_of result ≡ call_refusal mempool room sub inputs.now outputs.now }
+    ensures value { code_of result ≡ call_refusal mempool room sub lists.now.inputs.now lists.now.outputs.now }
 {
     if mempool.pass.open {
         return Err(Refusal::PassOpen);
     }
-    if !are_whole(inputs, 5, outputs, 7) {
+    if !are_whole(lists.inputs, 5, lists.outputs, 7) {
         return Err(Refusal::Lists);
     }
     if room <= mempool.counts.pooled {
@@ -77,7 +78,7 @@ fn check_call(
     if MAX_TX_SIZE < sub.size {
         return Err(Refusal::Size);
     }
-    if is_fee_beyond(outputs) {
+    if is_fee_beyond(lists.outputs) {
         return Err(Refusal::FeeSum);
     }
     let verdict = sub.verdict;
@@ -117,29 +118,21 @@ fn check_peer(mempool: Mempool, standing: Standing) -> Result<(), Refusal>
 // Refusals 22, 23, 24, 25, 26. The standing of a local submission is not looked at.
 #[tactic(auto, unfolding(crate::specs::Checks::state_refusal))]
 fn check_state(
-    entries: &[u64],
-    cache: &[u64],
+    entries: &Entries<'_>,
+    cache: &ExpiringCache<'_>,
     mempool: Mempool,
     standing: Standing,
     sub: Submission,
 ) -> Result<(), Refusal>
-    requires entries_ok { EntriesOk entries.now mempool.counts.pooled }
-    requires cache_ok { CacheOk cache.now mempool.cached }
     ensures refusals_value { among (code_of result) (0 ∷ refusals) ≡ true }
     ensures welcome { code_of result ≡ 0 → remote sub.source ≡ true → Welcome mempool standing }
-    ensures value { EntriesKept entries.now mempool.counts.pooled → CacheKept cache.now mempool.cached
-        → code_of result ≡ state_refusal mempool (cache_of cache.now mempool.cached) (entries_of entries.now mempool.counts.pooled) standing sub }
+    ensures value { EntriesKept entries.now.words.now entries.now.pooled → CacheKept cache.now.words.now cache.now.rows
+        → code_of result ≡ state_refusal mempool (cache_of cache.now.words.now cache.now.rows) (entries_in entries.now) standing sub }
 {
-    if contains(
-        cache,
-        mempool.cached,
-        mempool.config.invalidation_ttl,
-        sub.time,
-        sub.id,
-    ) {
+    if cache.contains(mempool.config.invalidation_ttl, sub.time, sub.id) {
         return Err(Refusal::HeldInvalid);
     }
-    if is_pooled(entries, mempool.counts.pooled, sub.id) {
+    if entries.is_pooled(sub.id) {
         return Err(Refusal::AlreadyPooled);
     }
     let source = sub.source;
@@ -160,30 +153,21 @@ fn is_ahead(outputs: &[u64], preheader: u32) -> bool
 
 // Refusals 7, 27, 28, 8.
 #[tactic(auto, unfolding(crate::specs::Checks::list_refusal))]
-fn check_lists(
-    entries: &[u64],
-    boxes: &[u64],
-    mempool: Mempool,
-    sub: Submission,
-    inputs: &[u64],
-    outputs: &[u64],
-) -> Result<(), Refusal>
-    requires { PoolFits entries.now boxes.now mempool.counts }
+fn check_lists(pool: &Pool<'_>, sub: Submission, lists: &Lists<'_>) -> Result<(), Refusal>
     ensures refusals_value { among (code_of result) (0 ∷ refusals) ≡ true }
-    ensures inputs_bound { code_of result ≡ 0 → (records 5 inputs.now ≤ max_inputs) × Room entries.now boxes.now mempool.counts (records 5 inputs.now + records 7 outputs.now) }
-    ensures value { BoxesKept boxes.now mempool.counts.records → code_of result ≡ list_refusal max_inputs (entries_room entries.now) (boxes_room boxes.now) (tables_of entries.now boxes.now mempool.counts) sub inputs.now outputs.now }
+    ensures inputs_bound { code_of result ≡ 0 → (records 5 lists.now.inputs.now ≤ max_inputs) × Room pool.now.entries.now pool.now.boxes.now pool.now.counts (records 5 lists.now.inputs.now + records 7 lists.now.outputs.now) }
+    ensures value { BoxesKept pool.now.boxes.now pool.now.counts.records → code_of result ≡ list_refusal max_inputs (entries_room pool.now.entries.now) (boxes_room pool.now.boxes.now) (tables_of pool.now.entries.now pool.now.boxes.now pool.now.counts) sub lists.now.inputs.now lists.now.outputs.now }
 {
-    if MAX_TX_INPUTS < count_records(inputs, 5) {
+    if MAX_TX_INPUTS < count_records(lists.inputs, 5) {
         return Err(Refusal::TooManyInputs);
     }
-    let counts = mempool.counts;
-    if lacks_room(entries, boxes, counts, inputs, 5, outputs, 7) {
+    if lacks_room(pool, lists.inputs, 5, lists.outputs, 7) {
         return Err(Refusal::NoRoom);
     }
-    if !inputs_resolved(boxes, counts.records, inputs) {
+    if !inputs_resolved(&pool.boxes(), lists.inputs) {
         return Err(Refusal::InputNotFound);
     }
-    if is_ahead(outputs, sub.preheader) {
+    if is_ahead(lists.outputs, sub.preheader) {
         return Err(Refusal::HeightAhead);
     }
     Ok(())
@@ -201,15 +185,16 @@ pub fn check(
     room: usize,
     standing: Standing,
     sub: Submission,
-    inputs: &[u64],
-    outputs: &[u64],
+    lists: &Lists<'_>,
 ) -> Result<(), Refusal>
     requires { Testable entries.now boxes.now cache.now mempool }
     ensures refusals_value { among (code_of result) (0 ∷ refusals) ≡ true }
-    ensures passed { code_of result ≡ 0 → Passed max_inputs entries.now boxes.now mempool room standing sub inputs.now outputs.now }
-    ensures value { Indexed entries.now boxes.now cache.now mempool → code_of result ≡ refusal_of max_inputs (entries_room entries.now) (boxes_room boxes.now) mempool room (tables_of entries.now boxes.now mempool.counts) (cache_of cache.now mempool.cached) standing sub inputs.now outputs.now }
+    ensures passed { code_of result ≡ 0 → Passed max_inputs entries.now boxes.now mempool room standing sub lists.now.inputs.now lists.now.outputs.now }
+    ensures value { Indexed entries.now boxes.now cache.now mempool → code_of result ≡ refusal_of max_inputs (entries_room entries.now) (boxes_room boxes.now) mempool room (tables_of entries.now boxes.now mempool.counts) (cache_of cache.now mempool.cached) standing sub lists.now.inputs.now lists.now.outputs.now }
 {
-    check_call(mempool, room, sub, inputs, outputs)?;
-    check_state(entries, cache, mempool, standing, sub)?;
-    check_lists(entries, boxes, mempool, sub, inputs, outputs)
+    let pool = Pool::new(entries, boxes, mempool.counts);
+    let cache = ExpiringCache::new(cache, mempool.cached);
+    check_call(mempool, room, sub, lists)?;
+    check_state(&pool.entries(), &cache, mempool, standing, sub)?;
+    check_lists(&pool, sub, lists)
 }

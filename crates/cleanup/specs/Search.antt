@@ -78,9 +78,6 @@ pub record Seeking (l : List ℕ) (n g : ℕ) (p : PassNow) (i : ℕ) : Type 0 w
   pub same : first_due g p (drop i (entries_of l n)) ≡ first_due g p (entries_of l n)
 
 module _ (l : List ℕ) (n g : ℕ) (p : PassNow) where
-  pub seek-none : Seeking l n g p 0
-  seek-none = record { low = omega arith; same = refl }
-
   nowhere : (i : ℕ) → None ≡ Some i → i < n
   nowhere i h = let z : ◌≡◌ {A = ℕ} 0 1 = cc in absurd (omega arith)
 

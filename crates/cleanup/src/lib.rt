@@ -4,7 +4,7 @@
 
 pub mod rebroadcast;
 
-ghost use Rattle.std.specs.Prelude.{Some, ◌≡◌, true, false, not, List, [], ◌∷◌, ℕ, ◌+◌, ◌≤◌, max, leb, length};
+ghost use Rattle.std.specs.Prelude.{Some, ◌≡◌, true, false, not, List, [], ◌∷◌, ℕ, ◌+◌, ◌≤◌, ◌<◌, max, leb, length};
 ghost use Rattle.words.specs.Lists.{pick};
 ghost use Rattle.words.specs.Find.{found};
 ghost use Rattle.words.specs.Ids.{id_of};
@@ -15,6 +15,7 @@ ghost use Rattle.expiring_cache.specs.Layout.{cache_room};
 ghost use Rattle.peers.specs.declared.PeerRecord.{PeerRecord};
 ghost use Rattle.entries.specs.Entries.{stamped};
 ghost use Rattle.entries.specs.Layout.{EntriesOk, EntriesKept, entry_at, entries_of, entries_room};
+ghost use Rattle.entries.specs.Views.{KeptIn, entries_in};
 ghost use Rattle.boxes.specs.Records.{inputs_of};
 ghost use Rattle.boxes.specs.Among.{among};
 ghost use Rattle.boxes.specs.Layout.{BoxesOk, boxes_of};
@@ -30,34 +31,17 @@ ghost use Rattle.cleanup.specs.Numbers.{of_open, of_next, of_answer};
 ghost use Rattle.cleanup.specs.Search.{looked, Sought};
 
 use arguments::height_order;
-use entries::fields::{entries_room, height_key_at, id_at, last_checked_at, validation_cost_at};
-use entries::table::{find_entry, stamp_entry};
+use boxes::views::Boxes;
+use entries::fields::entries_room;
+use entries::table::stamp_entry;
+use entries::views::Entries;
 use indexes::inputs::count_inputs;
 use indexes::resolved::answer_resolved;
-use pool::remove;
-use pool_types::{AnswerOutcome, Mempool, NextOutcome, Pass, Refusal, Verdict};
+use pool::lent::PoolMut;
+use pool_types::{AnswerOutcome, Done, Mempool, NextOutcome, Pass, Refusal, Verdict};
 use returns::remember;
 use store::fits_cache;
 use words::ids::Id;
-
-// What the calls hand back: the state, and what they answer.
-#[derive(Clone, Copy)]
-pub struct Opened {
-    pub mempool: Mempool,
-    pub outcome: Result<(), Refusal>,
-}
-
-#[derive(Clone, Copy)]
-pub struct Offered {
-    pub mempool: Mempool,
-    pub outcome: Result<NextOutcome, Refusal>,
-}
-
-#[derive(Clone, Copy)]
-pub struct Answered {
-    pub mempool: Mempool,
-    pub outcome: Result<AnswerOutcome, Refusal>,
-}
 
 // ---- open
 
@@ -75,14 +59,14 @@ fn no_id() -> Id
 
 // Opens a pass at a time, with a limit of its cost, against a preheader's height.
 #[tactic(auto, unfolding(crate::specs::Numbers::of_open, pool_types::specs::Outcomes::done_of, crate::specs::Passes::opened))]
-pub fn open(mempool: Mempool, time: u64, limit: u64, preheader: u32) -> Opened
+pub fn open(mempool: Mempool, time: u64, limit: u64, preheader: u32) -> Done<Result<(), Refusal>>
     ensures open_promise { OpenPromise mempool time limit preheader result.mempool (done_of result.outcome) }
     ensures outcome_value { of_open result.outcome ≡ true }
     ensures by_index { (e b k : List ℕ) (ys : List PeerRecord) (a : List ℕ) → Spares (done_of result.outcome) (lent e b k ys a mempool) (lent e b k ys a result.mempool) }
     ensures pass_only { (w : World) → PassOnly mempool result.mempool (done_of result.outcome) (opened w (pass_of mempool.pass) time limit preheader) }
 {
     if mempool.pass.open {
-        return Opened {
+        return Done {
             mempool,
             outcome: Err(Refusal::PassOpen),
         };
@@ -96,7 +80,7 @@ pub fn open(mempool: Mempool, time: u64, limit: u64, preheader: u32) -> Opened
         preheader,
         spent: 0,
     };
-    Opened {
+    Done {
         mempool: Mempool { pass, ..mempool },
         outcome: Ok(()),
     }
@@ -136,17 +120,17 @@ enum Look {
 
 // The limit is tested after the due test, and the height after the limit.
 #[tactic(auto, unfolding(crate::specs::Search::looked))]
-fn look_at(entries: &[u64], i: usize, interval: u64, pass: Pass) -> Look
-    requires { EntriesOk entries.now (i + 1) }
-    ensures { result ≡ looked interval (pass_of pass) (entry_at entries.now i) }
+fn look_at(entries: &Entries<'_>, i: usize, interval: u64, pass: Pass) -> Look
+    requires { i < entries.now.pooled }
+    ensures { result ≡ looked interval (pass_of pass) (entry_at entries.now.words.now i) }
 {
-    if !is_due(interval, pass.time, last_checked_at(entries, i)) {
+    if !is_due(interval, pass.time, entries.last_checked_at(i)) {
         return Look::Over;
     }
     if has_reached(pass.spent, pass.limit) {
         return Look::Stop;
     }
-    if is_ahead(height_key_at(entries, i), pass.preheader) {
+    if is_ahead(entries.height_key_at(i), pass.preheader) {
         return Look::Over;
     }
     Look::Take
@@ -154,13 +138,12 @@ fn look_at(entries: &[u64], i: usize, interval: u64, pass: Pass) -> Look
 
 // The place of the first due entry in priority order, those ahead in height being passed over; nowhere if the sum has reached the limit. A loop that
 // yields its answer by `break`, a form that the scope names, and no `for`.
-fn first_due(entries: &[u64], n: usize, interval: u64, pass: Pass) -> Option<usize>
-    requires { EntriesOk entries.now n }
-    ensures { Sought entries.now n interval (pass_of pass) result }
+fn first_due(entries: &Entries<'_>, interval: u64, pass: Pass) -> Option<usize>
+    ensures { Sought entries.now.words.now entries.now.pooled interval (pass_of pass) result }
 {
     let mut i = 0;
     loop {
-        if n <= i {
+        if entries.len() <= i {
             break None;
         }
         match look_at(entries, i, interval, pass) {
@@ -179,7 +162,7 @@ fn first_due(entries: &[u64], n: usize, interval: u64, pass: Pass) -> Option<usi
 
 // The candidate goes out.
 #[tactic(auto, unfolding(crate::specs::Numbers::of_next, pool_types::specs::Outcomes::next_of, crate::specs::Passes::offered))]
-fn offer(mempool: Mempool, id: Id) -> Offered
+fn offer(mempool: Mempool, id: Id) -> Done<Result<NextOutcome, Refusal>>
     ensures pass_only { (w : World) → PassOnly mempool result.mempool (next_of result.outcome) (offered (id_of id ∷ []) w (pass_of mempool.pass)) }
     ensures outcome_value { of_next result.outcome ≡ true }
 {
@@ -188,7 +171,7 @@ fn offer(mempool: Mempool, id: Id) -> Offered
         candidate: id,
         ..mempool.pass
     };
-    Offered {
+    Done {
         mempool: Mempool { pass, ..mempool },
         outcome: Ok(NextOutcome::Candidate(id)),
     }
@@ -196,7 +179,7 @@ fn offer(mempool: Mempool, id: Id) -> Offered
 
 // The pass is closed.
 #[tactic(auto, unfolding(crate::specs::Numbers::of_next, pool_types::specs::Outcomes::next_of, crate::specs::Passes::offered))]
-fn end_pass(mempool: Mempool) -> Offered
+fn end_pass(mempool: Mempool) -> Done<Result<NextOutcome, Refusal>>
     ensures pass_only { (w : World) → PassOnly mempool result.mempool (next_of result.outcome) (offered [] w (pass_of mempool.pass)) }
     ensures outcome_value { of_next result.outcome ≡ true }
 {
@@ -209,7 +192,7 @@ fn end_pass(mempool: Mempool) -> Offered
         preheader: 0,
         spent: 0,
     };
-    Offered {
+    Done {
         mempool: Mempool { pass, ..mempool },
         outcome: Ok(NextOutcome::Ended(mempool.pass.spent)),
     }
@@ -218,7 +201,7 @@ fn end_pass(mempool: Mempool) -> Offered
 // The next candidate, or the one that waits for its answer; or that the pass has ended. On words and counts that no start and calls left it is
 // safe, and answers with a number of this call.
 #[tactic(auto, unfolding(crate::specs::Numbers::of_next, pool_types::specs::Outcomes::next_of))]
-pub fn next(entries: &[u64], mempool: Mempool) -> Offered
+pub fn next(entries: &[u64], mempool: Mempool) -> Done<Result<NextOutcome, Refusal>>
     ensures next_promise { NextPromise entries.now mempool result.mempool (next_of result.outcome) }
     ensures outcome_value { of_next result.outcome ≡ true }
     ensures by_index { (b k : List ℕ) (ys : List PeerRecord) (a : List ℕ) → Spares (next_of result.outcome)
@@ -228,26 +211,27 @@ pub fn next(entries: &[u64], mempool: Mempool) -> Offered
 {
     let pass = mempool.pass;
     if !pass.open {
-        return Offered {
+        return Done {
             mempool,
             outcome: Err(Refusal::NoPass),
         };
     }
     let n = mempool.counts.pooled;
     if entries_room(entries) < n {
-        return Offered {
+        return Done {
             mempool,
             outcome: Err(Refusal::Lists),
         };
     }
     if pass.out {
-        return Offered {
+        return Done {
             mempool,
             outcome: Ok(NextOutcome::Candidate(pass.candidate)),
         };
     }
-    match first_due(entries, n, mempool.config.cleanup_interval, pass) {
-        Some(i) => offer(mempool, id_at(entries, i)),
+    let entries = Entries::new(entries, n);
+    match first_due(&entries, mempool.config.cleanup_interval, pass) {
+        Some(i) => offer(mempool, entries.id_at(i)),
         None => end_pass(mempool),
     }
 }
@@ -282,7 +266,8 @@ fn check_answer(
     if !fits_cache(entries, boxes, cache, mempool) {
         return Err(Refusal::Lists);
     }
-    if flags.len() != count_inputs(boxes, mempool.counts.records, mempool.pass.candidate) {
+    let boxes = Boxes::new(boxes, mempool.counts.records);
+    if flags.len() != count_inputs(&boxes, mempool.pass.candidate) {
         return Err(Refusal::Lists);
     }
     Ok(())
@@ -291,12 +276,11 @@ fn check_answer(
 // ---- answer: what is done
 
 // The cost that the last validation of a transaction measured, 0 if none did.
-fn previous_cost(entries: &[u64], n: usize, id: Id) -> u64
-    requires { EntriesOk entries.now n }
-    ensures { EntriesKept entries.now n → result ≡ previous_cost (found (λ x. x.id) (id_of id) (entries_of entries.now n)) }
+fn previous_cost(entries: &Entries<'_>, id: Id) -> u64
+    ensures { KeptIn entries.now → result ≡ previous_cost (found (λ x. x.id) (id_of id) (entries_in entries.now)) }
 {
-    match find_entry(entries, n, id) {
-        Some(i) => validation_cost_at(entries, i).unwrap_or(0),
+    match entries.find(id) {
+        Some(i) => entries.validation_cost_at(i).unwrap_or(0),
         None => 0,
     }
 }
@@ -314,27 +298,33 @@ fn answered_with(pass: Pass, cost: u64) -> Pass
     }
 }
 
-// The candidate leaves the pool with its records, and its previous cost is added.
+// The candidate leaves the pool with its records, and its previous cost is added. The call lends tables and hands a state by value, so that here the pool
+// is made of them, and the clause asks that they fit.
 fn take_out(entries: &mut [u64], boxes: &mut [u64], mempool: Mempool) -> Mempool
     requires { PoolFits entries.old boxes.old mempool.counts }
     ensures { PoolKept entries.old boxes.old mempool.counts → Stepped entries.new boxes.new mempool result
         (remove_tx (id_of mempool.pass.candidate) (tables_of entries.old boxes.old mempool.counts))
         (answered_with (previous_cost (found (λ x. x.id) (id_of mempool.pass.candidate) (entries_of entries.old mempool.counts.pooled))) (pass_of mempool.pass)) }
 {
-    let before = mempool.counts;
+    let mut pool = PoolMut {
+        entries,
+        boxes,
+        counts: mempool.counts,
+    };
     let answering = mempool.pass;
     let id = answering.candidate;
-    let cost = previous_cost(entries, before.pooled, id);
-    let counts = remove(entries, boxes, before, id);
+    let cost = previous_cost(&pool.entries(), id);
+    pool.remove(id);
     let pass = answered_with(answering, cost);
     Mempool {
-        counts,
+        counts: pool.counts,
         pass,
         ..mempool
     }
 }
 
-// The candidate is stamped with the cost that was measured and the pass's time, and that cost is added.
+// The candidate is stamped with the cost that was measured and the pass's time, and that cost is added. No box changes, so that the entries alone
+// are lent: over a `PoolMut` it would be no plainer.
 fn stamp(entries: &mut [u64], mempool: Mempool, cost: u64) -> Mempool
     requires { EntriesOk entries.old mempool.counts.pooled }
     ensures { (b : List ℕ) → BoxesOk b mempool.counts.records → PoolKept entries.old b mempool.counts → Stepped entries.new b mempool result
@@ -362,7 +352,7 @@ fn weigh(
     cache: &mut [u64],
     mempool: Mempool,
     verdict: Verdict,
-) -> Answered
+) -> Done<Result<AnswerOutcome, Refusal>>
     requires testable { Testable entries.old boxes.old cache.old mempool }
     requires invalidation_capacity_bound { max mempool.config.invalidation_capacity 1 ≤ cache_room cache.old }
     ensures pass_post { (ys : List PeerRecord) → Kept entries.old boxes.old cache.old ys mempool →
@@ -375,21 +365,21 @@ fn weigh(
 {
     let id = mempool.pass.candidate;
     match verdict {
-        Verdict::Absent => Answered {
+        Verdict::Absent => Done {
             mempool,
             outcome: Ok(AnswerOutcome::AnswerNeeded),
         },
         Verdict::Invalid => {
             let known = remember(cache, mempool, mempool.pass.time, id);
             let after = take_out(entries, boxes, known);
-            Answered {
+            Done {
                 mempool: after,
                 outcome: Ok(AnswerOutcome::FoundInvalid(id)),
             }
         }
         Verdict::Valid(cost) => {
             let after = stamp(entries, mempool, cost);
-            Answered {
+            Done {
                 mempool: after,
                 outcome: Ok(AnswerOutcome::FoundValid(id)),
             }
@@ -406,7 +396,7 @@ pub fn answer(
     mempool: Mempool,
     flags: &[u64],
     verdict: Verdict,
-) -> Answered
+) -> Done<Result<AnswerOutcome, Refusal>>
     ensures answer_promise { AnswerPromise entries.old boxes.old cache.old mempool flags.now verdict entries.new boxes.new cache.new result.mempool (answered_of result.outcome) }
     ensures outcome_value { of_answer result.outcome ≡ true }
     ensures spares { (ys : List PeerRecord) (a : List ℕ) → Spares (answered_of result.outcome)
@@ -415,15 +405,16 @@ pub fn answer(
     ensures outcome_value_2 { cache_fits entries.old boxes.old cache.old mempool ≡ false → answered_of result.outcome ≡ refused (pick (none_out mempool.pass) 21 1) 0 }
 {
     if let Err(refusal) = check_answer(entries, boxes, cache, mempool, flags) {
-        return Answered {
+        return Done {
             mempool,
             outcome: Err(refusal),
         };
     }
     let id = mempool.pass.candidate;
-    if !answer_resolved(boxes, mempool.counts.records, id, flags) {
+    let found = Boxes::new(boxes, mempool.counts.records);
+    if !answer_resolved(&found, id, flags) {
         let after = take_out(entries, boxes, mempool);
-        return Answered {
+        return Done {
             mempool: after,
             outcome: Ok(AnswerOutcome::InputMissing(id)),
         };

@@ -3,11 +3,11 @@ ghost use Rattle.std.specs.Prelude.{◌≡◌, true, false, ◌+◌, ◌≤◌, 
 ghost use Rattle.words.specs.Sums.{cap};
 ghost use Rattle.pool_types.specs.Refusals.{code_of};
 ghost use Rattle.pool_types.specs.Outcomes.{listed_of, refused};
-ghost use Rattle.boxes.specs.Flat.{ids_of};
+ghost use Rattle.boxes.specs.Views.{ids_in};
 ghost use Rattle.boxes.specs.Layout.{boxes_of};
 ghost use Rattle.boxes.specs.Index.{BoxesKept};
 ghost use Rattle.entries.specs.Layout.{entry_at};
-ghost use Rattle.pool.specs.Pool.{PoolFits, fits_test, tables_of};
+ghost use Rattle.pool.specs.Pool.{fits_test, tables_of};
 ghost use Rattle.cleanup.specs.Post.{Told};
 ghost use Rattle.cleanup.specs.Rebroadcast.{rebroadcast_refusal};
 ghost use Rattle.cleanup.specs.Selecting.{SelectedOne, Selected};
@@ -16,10 +16,11 @@ ghost use Rattle.cleanup.specs.Numbers.{of_rebroadcast};
 
 use answers::write_id;
 use arguments::is_whole;
-use entries::fields::id_at;
+use boxes::lists::Ids;
 use indexes::inputs::all_listed;
 use pool::fits;
-use pool_types::{Counts, Mempool, Refusal};
+use pool::lent::Pool;
+use pool_types::{Mempool, Refusal};
 
 // Refusals 1 and 2, where the answer has room for so many ids.
 #[tactic(auto, unfolding(crate::specs::Numbers::of_rebroadcast, crate::specs::Rebroadcast::rebroadcast_refusal))]
@@ -37,23 +38,13 @@ fn check_rebroadcast(mempool: Mempool, room: usize, confirmed: &[u64]) -> Result
 }
 
 // Writes the id of entry `i` at place `n`, if all its inputs are confirmed, and returns how many are written then.
-fn select_one(
-    entries: &[u64],
-    boxes: &[u64],
-    answer: &mut [u64],
-    counts: Counts,
-    i: usize,
-    n: usize,
-    confirmed: &[u64],
-) -> usize
-    requires pool_fits { PoolFits entries.now boxes.now counts }
-    requires i_lt_pooled { i < counts.pooled }
-    requires n_lt_cap { n < cap }
+fn select_one(pool: &Pool<'_>, answer: &mut [u64], i: usize, n: usize, confirmed: &Ids<'_>) -> usize
+    requires { (i < pool.now.counts.pooled) × (n < cap) }
     ensures upper_bound { result ≤ n + 1 }
-    ensures selected_one { BoxesKept boxes.now counts.records → SelectedOne answer.old answer.new (ids_of 4 confirmed.now) (boxes_of boxes.now counts.records) (entry_at entries.now i) n result }
+    ensures selected_one { BoxesKept pool.now.boxes.now pool.now.counts.records → SelectedOne answer.old answer.new (ids_in confirmed.now) (boxes_of pool.now.boxes.now pool.now.counts.records) (entry_at pool.now.entries.now i) n result }
 {
-    let id = id_at(entries, i);
-    if all_listed(boxes, counts.records, id, confirmed) {
+    let id = pool.entries().id_at(i);
+    if all_listed(&pool.boxes(), id, confirmed) {
         write_id(answer, n, id);
         return n + 1;
     }
@@ -61,24 +52,16 @@ fn select_one(
 }
 
 // Writes the ids of the first `most` transactions in priority order all of whose inputs are confirmed, and returns how many they are.
-fn select(
-    entries: &[u64],
-    boxes: &[u64],
-    answer: &mut [u64],
-    counts: Counts,
-    most: usize,
-    confirmed: &[u64],
-) -> usize
-    requires { PoolFits entries.now boxes.now counts }
-    ensures upper_bound { result ≤ counts.pooled }
-    ensures selected { BoxesKept boxes.now counts.records → Selected answer.old answer.new most (ids_of 4 confirmed.now) (tables_of entries.now boxes.now counts) result }
+fn select(pool: &Pool<'_>, answer: &mut [u64], most: usize, confirmed: &Ids<'_>) -> usize
+    ensures upper_bound { result ≤ pool.now.counts.pooled }
+    ensures selected { BoxesKept pool.now.boxes.now pool.now.counts.records → Selected answer.old answer.new most (ids_in confirmed.now) (tables_of pool.now.entries.now pool.now.boxes.now pool.now.counts) result }
 {
     let mut n = 0;
-    for i in 0..counts.pooled {
+    for i in 0..pool.entries().len() {
         if most <= n {
             return n;
         }
-        n = select_one(entries, boxes, answer, counts, i, n, confirmed);
+        n = select_one(pool, answer, i, n, confirmed);
     }
     n
 }
@@ -103,6 +86,7 @@ pub fn select_for_rebroadcast(
         return Err(Refusal::Lists);
     }
     check_rebroadcast(mempool, answer.len() / 4, confirmed)?;
+    let pool = Pool::new(entries, boxes, counts);
     let most = mempool.config.rebroadcast_count;
-    Ok(select(entries, boxes, answer, counts, most, confirmed))
+    Ok(select(&pool, answer, most, &Ids::new(confirmed, 4)))
 }

@@ -2,10 +2,10 @@
 // printed in priority order, each with its weight.
 #![tactic(auto)]
 
-use boxes::lists::count_of;
-use entries::fields::{PoolEntry, id_at, weight_at};
+use boxes::lists::{Ids, TxIds};
+use entries::fields::PoolEntry;
 use family::propagate_family_weight;
-use pool::{fits, insert, room_for};
+use pool::lent::{Pool, PoolMut};
 use pool_types::Counts;
 use std::io;
 use words::ids::Id;
@@ -34,81 +34,51 @@ fn entry_of(id: u64, base: u64) -> PoolEntry {
     }
 }
 
-pub fn nothing() -> Counts {
-    Counts {
+// An empty pool in these words, whatever they hold.
+pub fn nothing<'a>(entries: &'a mut [u64], boxes: &'a mut [u64]) -> PoolMut<'a> {
+    let counts = Counts {
         pooled: 0,
         records: 0,
+    };
+    PoolMut {
+        entries,
+        boxes,
+        counts,
     }
 }
 
 // Enters a transaction, where there is room.
-pub fn enter(
-    entries: &mut [u64],
-    boxes: &mut [u64],
-    counts: Counts,
-    id: u64,
-    base: u64,
-    inputs: &[u64],
-    outputs: &[u64],
-) -> Counts {
-    if !fits(entries, boxes, counts) {
-        return counts;
+pub fn enter(pool: &mut PoolMut<'_>, id: u64, base: u64, inputs: &[u64], outputs: &[u64]) {
+    let lists = TxIds {
+        inputs: Ids::new(inputs, 4),
+        outputs: Ids::new(outputs, 4),
+    };
+    if pool.pool().room_for(lists.len()) {
+        pool.insert(entry_of(id, base), &lists);
     }
-    let needed = count_of(inputs, 4) + count_of(outputs, 4);
-    if !room_for(entries, boxes, counts, needed) {
-        return counts;
-    }
-    insert(
-        entries,
-        boxes,
-        counts,
-        entry_of(id, base),
-        inputs,
-        4,
-        outputs,
-        4,
-    )
 }
 
 // Enters a newcomer of base 1 and has it credit its family.
-pub fn arrive(
-    entries: &mut [u64],
-    boxes: &mut [u64],
-    counts: Counts,
-    id: u64,
-    inputs: &[u64],
-    outputs: &[u64],
-) -> Counts {
-    let after = enter(entries, boxes, counts, id, 1, inputs, outputs);
-    if fits(entries, boxes, after) {
-        propagate_family_weight(entries, boxes, after, id_of(id), 1);
-    }
-    after
+pub fn arrive(pool: &mut PoolMut<'_>, id: u64, inputs: &[u64], outputs: &[u64]) {
+    enter(pool, id, 1, inputs, outputs);
+    propagate_family_weight(pool, id_of(id), 1);
 }
 
 // ---- what is printed
 
-pub fn show(
-    rt: &impl Print,
-    entries: &[u64],
-    boxes: &[u64],
-    counts: Counts,
-    rank: usize,
-) -> io::Result<()> {
-    if !fits(entries, boxes, counts) {
+pub fn show(rt: &impl Print, pool: &Pool<'_>, rank: usize) -> io::Result<()> {
+    let entries = pool.entries();
+    if entries.len() <= rank {
         return Ok(());
     }
-    if counts.pooled <= rank {
-        return Ok(());
-    }
-    let id = id_at(entries, rank).d;
-    let weight = weight_at(entries, rank);
+    let id = entries.id_at(rank).d;
+    let weight = entries.weight_at(rank);
     print!(rt; " {id}:{weight}")
 }
 
-pub fn show_all(rt: &impl Print, entries: &[u64], boxes: &[u64], counts: Counts) -> io::Result<()> {
-    for rank in 0..counts.pooled {
-        show(rt, entries, boxes, counts, rank)?;
+pub fn show_all(rt: &impl Print, pool: &Pool<'_>) -> io::Result<()> {
+    for rank in 0..pool.entries().len() {
+        show(rt, pool, rank)?;
     }
     println!(rt; "")
 }

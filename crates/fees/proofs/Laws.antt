@@ -17,17 +17,15 @@ use Rattle.std.proofs.lemmas.List.Recursion.{is_count_by}
 use Rattle.std.proofs.lemmas.Slice.{drop-append-drop}
 use borrow.Author.Tests.{le-leb, lt-leb, le-ltb, lt-ltb, ne_eqb}
 use Rattle.words.specs.Lists.{pick}
-use Rattle.words.specs.Sums.{quotient_of}
 use Rattle.words.specs.Rows.{rec_at, blk-lit, recs-store}
 use Rattle.words.specs.Tables.{of_none, of-suc}
 use Rattle.pool_types.specs.declared.Mempool.{Mempool}
-use Rattle.pool_types.specs.Outcomes.{number, wrote, listed_of}
+use Rattle.pool_types.specs.Outcomes.{wrote, listed_of}
 use Rattle.pool_types.specs.declared.Refusal.{Refusal}
 use Rattle.pool_types.specs.Refusals.{refusal_number}
-use Rattle.stats.specs.Stats.{wait_in}
 use Rattle.entries.specs.Entries.{Entry}
 use Rattle.entries.specs.Layout.{entry_at, entries_of, entries_room, entries}
-use Rattle.fees.specs.Fees.{above, expected_in, Bin, bin, no_bin, bin_of, more, add_to, binned, Histogram, histogram, no_histogram, histogram_of}
+use Rattle.fees.specs.Fees.{above, Bin, bin, no_bin, bin_of, more, add_to, binned, Histogram, histogram, no_histogram, histogram_of}
 use Rattle.fees.specs.Bins.{bin_dec, bin_at, bins_of, bins, Put, Laid, Drawn}
 
 -- ---- a wait for a fee
@@ -40,24 +38,17 @@ above-count w es = is_count_by (above w) (λ x. ltb w x.weight) refl (λ x xs. s
     step false n = omega arith
 
 -- those above a weight, counted by their places
-pub above-places : (w : ℕ) (e : List ℕ) (n : ℕ) → count_by (λ i. ltb w (entry_at e i).weight) (range_with_len 0 n) ≡ above w (entries_of e n)
-above-places w e n =
+pub above_places : (w : ℕ) (e : List ℕ) (n : ℕ) → count_by (λ i. ltb w (entry_at e i).weight) (range_with_len 0 n) ≡ above w (entries_of e n)
+above_places w e n =
     sym (above-count w (entries_of e n)
     ∙ ap (count_by (λ x. ltb w x.weight)) (fill_by_all (entry_at e) (entries_of e n) n (entry_at e 0) (entries.len e n) (λ k h. entries.get e n k (entry_at e 0) h))
     ∙ fold-map (λ a x. a + cond (ltb w x.weight) 1 0) (entry_at e) 0 (range_with_len 0 n))
 
-module _ (e : List ℕ) (pooled start taken time fee size : ℕ) where
-  module _ (h : pooled ≤ entries_room e) where
-    pub wait-given : 0 < size → size ≤ 98304 → (w n r : ℕ) → w ≡ quotient_of (fee * 1024) size → n ≡ above w (entries_of e pooled) → r ≡ wait_in 60000 start taken time n
-        → number r ≡ expected_in e pooled start taken time fee size
-    unfolding expected_in
-    wait-given p g w n r a b d = let z : size ≡ 0 → ⊥ = omega arith in ap number (d ∙ ap (wait_in 60000 start taken time) (b ∙ ap (λ v. above v (entries_of e pooled)) a)) ∙ rw (le-leb _ _ h, ne_eqb size 0 z, le-ltb _ _ g)
-
 -- ---- bins in words
 
-pub put-words : (l : List ℕ) (i n t : ℕ) → i * 2 + 2 ≤ length l → Put l (set (set l (i * 2) n) (i * 2 + 1) t) i (bin n t)
+pub put_words : (l : List ℕ) (i n t : ℕ) → i * 2 + 2 ≤ length l → Put l (set (set l (i * 2) n) (i * 2 + 1) t) i (bin n t)
 unfolding bins_of bin_dec
-put-words l i n t h =
+put_words l i n t h =
     record {
       kept = simp length-set;
       bins = λ k. recs-store 2 bin_dec l (n ∷ t ∷ []) i refl h k;
@@ -68,9 +59,9 @@ pub count_word : (l : List ℕ) (i : ℕ) → get_or l (i * 2) 0 ≡ (bin_at l i
 unfolding bin_at rec_at bin_dec
 count_word l i = simp (blk-lit 2 l i, tt {0}, add-zero)
 
-pub total-word : (l : List ℕ) (i : ℕ) → get_or l (i * 2 + 1) 0 ≡ (bin_at l i).total
+pub total_word : (l : List ℕ) (i : ℕ) → get_or l (i * 2 + 1) 0 ≡ (bin_at l i).total
 unfolding bin_at rec_at bin_dec
-total-word l i = simp (blk-lit 2 l i, tt {0})
+total_word l i = simp (blk-lit 2 l i, tt {0})
 
 -- ---- bins cleared
 
@@ -94,7 +85,7 @@ cleared l z n h e = rw e (record { kept = kept; bins = bins'; rest = drop-append
     zero k b = get_or-append (replicate (n * 2) 0) (drop (n * 2) l) 0 k (omega (arith, b, len)) ∙ get_or-replicate {A = ℕ} (n * 2) k 0 0 b
 
     empty : (i : ℕ) → i < n → bin_at m i ≡ no_bin
-    empty i b = λ k. bin ((sym (count_word m i) ∙ zero (i * 2) (omega arith)) k) ((sym (total-word m i) ∙ zero (i * 2 + 1) (omega arith)) k)
+    empty i b = λ k. bin ((sym (count_word m i) ∙ zero (i * 2) (omega arith)) k) ((sym (total_word m i) ∙ zero (i * 2 + 1) (omega arith)) k)
 
     bins' : bins_of m n ≡ replicate n no_bin
     bins' =
@@ -117,10 +108,10 @@ added : (l m : List ℕ) (n i base : ℕ) → i < n → Put l m i (more (bin_at 
 added l m n i base h p = record { kept = p.kept; bins = p.bins n ∙ rw (bins.get l n i no_bin h); rest = p.rest n h }
 
 -- the entry at i is counted in the bin k of its wait
-pub entry-added : (e l m : List ℕ) (i time size longest created wait k base : ℕ) → created ≡ (entry_at e i).created → wait ≡ time - created → k ≡ bin_of size longest wait
+pub entry_added : (e l m : List ℕ) (i time size longest created wait k base : ℕ) → created ≡ (entry_at e i).created → wait ≡ time - created → k ≡ bin_of size longest wait
     → base ≡ (entry_at e i).base → Put l m k (more (bin_at l k) base)
     → Laid l m (size + 1) (add_to (bins_of l (size + 1)) (bin_of size longest (time - (entry_at e i).created)) (entry_at e i).base)
-entry-added e l m i time size longest created wait k base c w b f p =
+entry_added e l m i time size longest created wait k base c w b f p =
     let here : k ≡ bin_of size longest (time - (entry_at e i).created) = b ∙ ap (bin_of size longest) (w ∙ ap (λ (x : ℕ). time - x) c) in
     rw (here, f) at (added l m (size + 1) k base (omega (arith, b, bin-most size longest wait)) p)
 
@@ -133,13 +124,13 @@ module _ (size longest time : ℕ) where
   length-binned [] bs = refl
   length-binned (e ∷ es) bs = length-binned es _ ∙ simp length-set
 
-  pub binned-none : (e l : List ℕ) (n : ℕ) → Laid l l n (binned size longest time (entries_of e 0) (bins_of l n))
-  binned-none e l n = rw (of_none entries e) (record { kept = refl; bins = refl; rest = refl })
+  pub binned_none : (e l : List ℕ) (n : ℕ) → Laid l l n (binned size longest time (entries_of e 0) (bins_of l n))
+  binned_none e l n = rw (of_none entries e) (record { kept = refl; bins = refl; rest = refl })
 
-  pub binned-more : (e l₀ l m : List ℕ) (n i : ℕ) (bs : List Bin) → Laid l₀ l n (binned size longest time (entries_of e i) bs)
+  pub binned_more : (e l₀ l m : List ℕ) (n i : ℕ) (bs : List Bin) → Laid l₀ l n (binned size longest time (entries_of e i) bs)
       → Laid l m n (add_to (bins_of l n) (bin_of size longest (time - (entry_at e i).created)) (entry_at e i).base)
       → Laid l₀ m n (binned size longest time (entries_of e (i + 1)) bs)
-  binned-more e l₀ l m n i bs w p =
+  binned_more e l₀ l m n i bs w p =
       record {
         kept = p.kept ∙ w.kept;
         bins = p.bins ∙ rw w.bins (sym (rw (of-suc entries e i) (binned-append (entries_of e i) (entry_at e i ∷ []) bs)));

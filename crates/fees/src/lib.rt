@@ -6,11 +6,13 @@ ghost use Rattle.std.specs.Prelude.{◌≡◌, ◌+◌, ◌-◌, ◌*◌, ◌≤
 ghost use Rattle.std.specs.List.{range_with_len};
 ghost use Rattle.words.specs.Sums.{quotient_of};
 ghost use Rattle.pool_types.specs.Outcomes.{number_of};
-ghost use Rattle.entries.specs.Layout.{EntriesOk, entry_at, entries_of};
-ghost use Rattle.fees.specs.Fees.{at_least, recommended_in, recommended, above, expected_in, expected_wait, bin, no_bin, bin_of, more, add_to, binned, histogram_of};
+ghost use Rattle.entries.specs.Layout.{entry_at};
+ghost use Rattle.entries.specs.Views.{entries_in};
+ghost use Rattle.fees.specs.Fees.{at_least, recommended_in, recommended, expected_in, expected_wait, bin, no_bin, bin_of, more, add_to, binned, histogram_of};
 ghost use Rattle.fees.specs.Bins.{Bounds, bin_at, bins_of, Put, Laid, Drawn};
 
-use entries::fields::{entries_room, since_at, weight_at};
+use entries::fields::entries_room;
+use entries::views::Entries;
 use pool_types::{Mempool, Refusal};
 use stats::{FeeStats, fee_for_wait, wait_for_position};
 use words::wide::Wide;
@@ -68,25 +70,25 @@ fn fee_per_kb(fee: u64, size: u32) -> u64
 }
 
 // Whether entry i is ahead of a weight. One as heavy is not.
-fn is_ahead(entries: &[u64], i: usize, weight: u64) -> bool
-    requires { EntriesOk entries.now (i + 1) }
-    ensures { result ≡ ltb weight (entry_at entries.now i).weight }
+fn is_ahead(entries: &Entries<'_>, i: usize, weight: u64) -> bool
+    requires { i < entries.now.pooled }
+    ensures { result ≡ ltb weight (entry_at entries.now.words.now i).weight }
 {
-    weight < weight_at(entries, i)
+    weight < entries.weight_at(i)
 }
 
-// How many of the first n entries are ahead of a weight.
-#[tactic(auto, unfolding(entries::specs::Layout::EntriesOk))]
-fn position(entries: &[u64], n: usize, weight: u64) -> u64
-    requires { EntriesOk entries.now n }
-    ensures { result ≡ count_by (λ i. ltb weight (entry_at entries.now i).weight) (range_with_len 0 n) }
+// How many entries are ahead of a weight.
+fn position(entries: &Entries<'_>, weight: u64) -> u64
+    ensures { result ≡ count_by (λ i. ltb weight (entry_at entries.now.words.now i).weight) (range_with_len 0 entries.now.pooled) }
 {
-    (0..n).filter(|i| is_ahead(entries, *i, weight)).count() as u64
+    (0..entries.len())
+        .filter(|i| is_ahead(entries, *i, weight))
+        .count() as u64
 }
 
 // The wait in milliseconds that a transaction of `size` bytes paying `fee` can expect at `time` among so many pooled, where `taken` were confirmed since
 // `window_start`.
-#[tactic(auto, unfolding(pool_types::specs::Outcomes::number_of, crate::specs::Fees::expected_in, entries::specs::Layout::EntriesOk, entries::specs::Layout::entries_room))]
+#[tactic(auto, using(crate::proofs::Laws::above_places), unfolding(pool_types::specs::Outcomes::number_of, crate::specs::Fees::expected_in, entries::specs::Layout::EntriesOk, entries::specs::Layout::entries_room))]
 pub fn expected_wait_in(
     entries: &[u64],
     pooled: usize,
@@ -104,7 +106,7 @@ pub fn expected_wait_in(
     if size == 0 || MAX_TRANSACTION_SIZE < size {
         return Err(Refusal::Size);
     }
-    let place = position(entries, pooled, fee_per_kb(fee, size));
+    let place = position(&Entries::new(entries, pooled), fee_per_kb(fee, size));
     Ok(wait_for_position(window_start, taken, time, place))
 }
 
@@ -142,7 +144,7 @@ fn put_bin(answer: &mut [u64], i: usize, count: u64, total: u64)
     answer[i * 2 + 1] = total;
 }
 
-// Empties the first n bins.
+// Empties the first n bins: a bin is two words, so the count is no length of the slice.
 fn clear_bins(answer: &mut [u64], n: usize)
     requires { n * 2 ≤ length answer.old }
     ensures { Laid answer.old answer.new n (replicate n no_bin) }
@@ -162,6 +164,7 @@ fn bin_of(bins: u64, longest: u64, interval: u64, wait: u64) -> u64
 }
 
 // Counts one more, of this base, in bin i.
+#[tactic(auto, using(crate::proofs::Laws::count_word, crate::proofs::Laws::total_word))]
 fn add_to(answer: &mut [u64], i: usize, base: u64)
     requires { i * 2 + 2 ≤ length answer.old }
     ensures { Put answer.old answer.new i (more (bin_at answer.old i) base) }
@@ -172,8 +175,9 @@ fn add_to(answer: &mut [u64], i: usize, base: u64)
 }
 
 // Counts entry i in the bin of its wait.
+#[tactic(auto, using(crate::proofs::Laws::entry_added))]
 fn add_entry(
-    entries: &[u64],
+    entries: &Entries<'_>,
     answer: &mut [u64],
     i: usize,
     time: u64,
@@ -181,27 +185,26 @@ fn add_entry(
     longest: u64,
     interval: u64,
 )
-    requires entries_ok { EntriesOk entries.now (i + 1) }
+    requires i_in_bounds { i < entries.now.pooled }
     requires bins_in_bounds { (bins + 1) * 2 ≤ length answer.old }
     requires bounds { Bounds bins longest interval }
-    ensures { Laid answer.old answer.new (bins + 1) (add_to (bins_of answer.old (bins + 1)) (bin_of bins longest (time - (entry_at entries.now i).created)) (entry_at entries.now i).base) }
+    ensures { Laid answer.old answer.new (bins + 1) (add_to (bins_of answer.old (bins + 1)) (bin_of bins longest (time - (entry_at entries.now.words.now i).created)) (entry_at entries.now.words.now i).base) }
 {
-    let since = since_at(entries, i);
+    let since = entries.since_at(i);
     let wait = time.saturating_sub(since.created);
     let at = bin_of(bins as u64, longest, interval, wait);
     add_to(answer, at as usize, since.base);
 }
 
-// Counts the first n entries. The bins' interval is divided out once for all.
-#[tactic(auto, unfolding(entries::specs::Layout::EntriesOk))]
-fn add_entries(entries: &[u64], n: usize, answer: &mut [u64], time: u64, bins: u32, longest: u64)
-    requires entries_ok { EntriesOk entries.now n }
+// Counts the entries. The bins' interval is divided out once for all.
+#[tactic(auto, using(crate::proofs::Laws::binned_none, crate::proofs::Laws::binned_more))]
+fn add_entries(entries: &Entries<'_>, answer: &mut [u64], time: u64, bins: u32, longest: u64)
     requires bins_in_bounds { (bins + 1) * 2 ≤ length answer.old }
     requires bins_nonzero { (0 < bins) × (bins ≤ longest) }
-    ensures { Laid answer.old answer.new (bins + 1) (binned bins longest time (entries_of entries.now n) (bins_of answer.old (bins + 1))) }
+    ensures { Laid answer.old answer.new (bins + 1) (binned bins longest time (entries_in entries.now) (bins_of answer.old (bins + 1))) }
 {
     let interval = longest / bins as u64;
-    for i in 0..n {
+    for i in 0..entries.len() {
         add_entry(entries, answer, i, time, bins, longest, interval);
     }
 }
@@ -229,6 +232,7 @@ pub fn pool_histogram_at(
         return Err(Refusal::Bins);
     }
     clear_bins(answer, n);
-    add_entries(entries, mempool.counts.pooled, answer, time, bins, longest);
+    let entries = Entries::new(entries, mempool.counts.pooled);
+    add_entries(&entries, answer, time, bins, longest);
     Ok(n)
 }

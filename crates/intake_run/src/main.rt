@@ -30,6 +30,7 @@ fn puts(
 }
 
 fn one_turn(rt: &impl Print, queue: &mut [u64; QUEUE_WORDS]) -> io::Result<()> {
+    // words as C lends them
     let mut answer = [0u64; 2];
     if gunthyd_intake_turn(queue, &mut answer) == 1 {
         let [handle, line] = answer;
@@ -58,6 +59,7 @@ fn over_the_wrap(rt: &impl Print, queue: &mut [u64; QUEUE_WORDS]) -> io::Result<
 }
 
 fn main(rt: HostRuntime) -> io::Result<()> {
+    // words as C lends them: no heap
     let mut queue = [0u64; QUEUE_WORDS];
     gunthyd_intake_start(&mut queue);
     over_the_wrap(&rt, &mut queue)

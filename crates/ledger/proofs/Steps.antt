@@ -18,7 +18,8 @@ use Rattle.store.specs.World.{Result}
 use Rattle.store.specs.Fits.{Testable, Indexed}
 use Rattle.mempool.specs.Start.{started}
 use Rattle.process.specs.Promises.{ProcessPromise}
-use Rattle.process.specs.declared.Processed.{Processed}
+use Rattle.pool_types.specs.declared.Done.{Done}
+use Rattle.pool_types.specs.declared.ProcessingOutcome.{ProcessingOutcome}
 use Rattle.returns.specs.Post.{Meets}
 use Rattle.returns.specs.Promises.{ReturnPromise, InvalidatePromise}
 use Rattle.returns.specs.declared.UnconfirmedTx.{UnconfirmedTx}
@@ -56,7 +57,7 @@ module _ (m : Moment) {e b k : List ℕ} {st : Mempool} {o : Outcome} where
 
 module _ (m : Moment) where
   -- `process::process`; `was` and `are` are the words of its answer buffer
-  pub submit-step : (a : Submission) (ins outs : List ℕ) {e b k : List ℕ} {ys : List PeerRecord} {was are : List ℕ} {r : Processed}
+  pub submit-step : (a : Submission) (ins outs : List ℕ) {e b k : List ℕ} {ys : List PeerRecord} {was are : List ℕ} {r : Done ProcessingOutcome}
       → ProcessPromise m.entries m.boxes m.cache m.peers m.state a ins outs e b k ys was are r → Step (Submit a ins outs) (processed_of r.outcome) m (moment e b k ys r.mempool)
   submit-step a ins outs {was = was} h =
       record { room = length was / 4; left = λ f. let p = h f in record { kept = p.kept; config = p.config; outcome = p.outcome; world = p.world; pass = ap pass_of p.pass } }

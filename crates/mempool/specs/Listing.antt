@@ -79,9 +79,6 @@ pub record RowPut (l m : List ℕ) (i : ℕ) (r : Row) : Type 0 where
   pub rows : (n : ℕ) → rows_of m n ≡ set (rows_of l n) i r
   pub rest : drop ((i + 1) * 6) m ≡ drop ((i + 1) * 6) l
 
-pub put-parts : (l : List ℕ) (p : ℕ) (x : Id) (w b : ℕ) → set (set (stored l p (id_words x)) (p + 4) w) (p + 5) b ≡ stored l p (row_words x w b)
-put-parts l p x w b = refl
-
 pub row_put : (l : List ℕ) (i : ℕ) (x : Id) (w b : ℕ) (r : Row) → i * 6 + 6 ≤ length l → id_of x ≡ r.id → w ≡ r.weight → b ≡ r.base → RowPut l (stored l (i * 6) (row_words x w b)) i r
 unfolding rows_of row_dec id_of id_at
 row_put l i x w b r h e f g =
@@ -126,10 +123,10 @@ laying-all e l₀ l i k q w =
 -- ---- where nothing is refused
 
 module _ (e : List ℕ) (st : Mempool) (words limit : ℕ) where
-  pub top-listed : st.counts.pooled ≤ entries_room e → min limit st.counts.pooled ≤ words / 6
+  pub top_listed : st.counts.pooled ≤ entries_room e → min limit st.counts.pooled ≤ words / 6
       → top_of e st words limit ≡ listing (wrote (min limit st.counts.pooled)) (map brief (entries_of e (min limit st.counts.pooled)))
   unfolding top_of
-  top-listed h g = rw (le-leb _ _ h, le-ltb _ _ g, taken)
+  top_listed h g = rw (le-leb _ _ h, le-ltb _ _ g, taken)
     where
       taken : take limit (entries_of e st.counts.pooled) ≡ entries_of e (min limit st.counts.pooled)
       taken = go (native.Mathlib.Decide.dec_le limit st.counts.pooled)
@@ -142,6 +139,6 @@ pub laid_none : (l : List ℕ) → Laid l l []
 laid_none l = record { kept = refl; rows = of_none rows l; rest = refl }
 
 -- a listing leaves the rows in it
-pub topped-listed : (l m e : List ℕ) (k j : ℕ) (t : Listing) → k ≡ j → t ≡ listing (wrote j) (map brief (entries_of e j)) → Laid l m (map brief (entries_of e k)) → Topped l m (Ok k) t
+pub topped_listed : (l m e : List ℕ) (k j : ℕ) (t : Listing) → k ≡ j → t ≡ listing (wrote j) (map brief (entries_of e j)) → Laid l m (map brief (entries_of e k)) → Topped l m (Ok k) t
 unfolding listed_of
-topped-listed l m e k j t q d a = rw d (record { outcome = ap wrote q; answer = rw (← q) a })
+topped_listed l m e k j t q d a = rw d (record { outcome = ap wrote q; answer = rw (← q) a })

@@ -6,6 +6,7 @@ use Rattle.std.proofs.Common.{sym, ◌∙◌, arith}
 use borrow.Author.Tests.{leb-true}
 use Rattle.words.specs.Lists.{pick}
 use Rattle.words.specs.Ids.{id_of}
+use Rattle.pool_types.specs.declared.Done.{Done}
 use Rattle.pool_types.specs.declared.Mempool.{Mempool}
 use Rattle.pool_types.specs.declared.Submission.{Submission}
 use Rattle.pool_types.specs.declared.Verdict.{Verdict}
@@ -31,17 +32,16 @@ use Rattle.admit.specs.Admit.{Admitted, cost_of}
 use Rattle.admit.specs.Admission.{Leaves}
 use Rattle.admit.specs.Spares.{SparesWords}
 use Rattle.admit.specs.Placed.{of_admission}
-use Rattle.admit.specs.declared.admission.Admission.{Admission}
+use Rattle.pool_types.specs.declared.Counts.{Counts}
 use Rattle.process.specs.Process.{standing_of, admitted, judged}
 use Rattle.process.specs.Post.{Post}
 use Rattle.process.specs.Numbers.{of_submission, unfit-ours, admission-ours, charging-of}
-use Rattle.process.specs.declared.Processed.{Processed}
 use Rattle.process.specs.Bills.{uncharged, Payable, Paid, Billed, nothing-due}
 use Rattle.process.specs.declared.submission.Bill.{Bill}
 use Rattle.process.specs.declared.submission.Submitted.{Submitted}
 
 -- what is handed back of a submission by value
-abbrev pub answered : Submitted → Processed
+abbrev pub answered : Submitted → Done ProcessingOutcome
 answered r = record { mempool = r.mempool; outcome = r.outcome }
 
 -- words of entries, boxes and cache: the counts fit, the cache has room for its capacity, and no more than 256 peer records are in use
@@ -83,6 +83,11 @@ charged-not p q = let z : true ≡ false = sym p ∙ q in never cc
 pub claims-as : {P : Type 0} {e₀ b₀ k₀ : List ℕ} {st : Mempool} {r : Submitted} {e b k : List ℕ} {ys : List PeerRecord} {a₀ a : List ℕ} {s t : Result}
     → s ≡ t → Claims P e₀ b₀ k₀ st r e b k ys a₀ a t → Claims P e₀ b₀ k₀ st r e b k ys a₀ a s
 claims-as q h = rw q h
+
+-- the words that were lent are what was left in them
+pub claims-left : {P : Type 0} {e₀ b₀ k₀ : List ℕ} {st : Mempool} {r : Submitted} {e b k e' b' k' : List ℕ} {ys : List PeerRecord} {a₀ a : List ℕ} {s : Result}
+    → Claims P e₀ b₀ k₀ st r e b k ys a₀ a s → e' ≡ e → b' ≡ b → k' ≡ k → Claims P e₀ b₀ k₀ st r e' b' k' ys a₀ a s
+claims-left h p q z = rw (p, q, z) h
 
 -- where more is known
 claims-where : {P Q : Type 0} {e₀ b₀ k₀ : List ℕ} {st : Mempool} {r : Submitted} {e b k : List ℕ} {ys : List PeerRecord} {a₀ a : List ℕ} {s : Result}
@@ -145,16 +150,16 @@ module _ (e b k : List ℕ) (ys : List PeerRecord) (a : List ℕ) (st : Mempool)
         })
 
   -- a valid one: the admission's tables, the charge beside them
-  pub claims-valid : (sub : Submission) (c : ℕ) (e' b' a' : List ℕ) (d : Admitted) (n : Admission) (g : Bill) {cost : ℕ}
-      → (PoolKept e b st.counts → pooled (id_of sub.id) (entries_of e st.counts.pooled) ≡ false → Leaves e' b' n a a' d)
-      → of_admission (processed_of n.outcome) ≡ true → SparesWords e b a st.counts e' b' a' n → written_of (processed_of n.outcome) ≤ length a / 4 → cost ≡ cost_of c sub.size → Billed ys st.sums sub.source cost g
-      → Claims (Sure e b k ys st sub) e b k st (record { mempool = record { config = st.config; counts = n.counts; cached = st.cached; sums = g.sums; pass = st.pass }; outcome = n.outcome; due = g.due }) e' b' k ys a a'
+  pub claims-valid : (sub : Submission) (c : ℕ) (e' b' a' : List ℕ) (d : Admitted) (m : Counts) (o : ProcessingOutcome) (g : Bill) {cost : ℕ}
+      → (PoolKept e b st.counts → pooled (id_of sub.id) (entries_of e st.counts.pooled) ≡ false → Leaves e' b' m o a a' d)
+      → of_admission (processed_of o) ≡ true → SparesWords e b a st.counts e' b' a' m o → written_of (processed_of o) ≤ length a / 4 → cost ≡ cost_of c sub.size → Billed ys st.sums sub.source cost g
+      → Claims (Sure e b k ys st sub) e b k st (record { mempool = record { config = st.config; counts = m; cached = st.cached; sums = g.sums; pass = st.pass }; outcome = o; due = g.due }) e' b' k ys a a'
       (admitted d (world_of e b k ys st) sub c)
-  claims-valid sub c e' b' a' d n g {cost = cost} j o v t z h =
-      let y = charging-of (processed_of n.outcome) o in
+  claims-valid sub c e' b' a' d m o g {cost = cost} j w v t z h =
+      let y = charging-of (processed_of o) w in
       record {
         payable = h.payable;
-        ours = admission-ours (processed_of n.outcome) o;
+        ours = admission-ours (processed_of o) w;
         post = λ s zs p.
             let f = s.kept.fits in
             let x = s.kept.indexed in

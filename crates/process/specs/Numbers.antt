@@ -7,7 +7,7 @@ use Rattle.pool_types.specs.Refusals.{refusal_number}
 use Rattle.pool_types.specs.declared.Refusal.{Refusal}
 use Rattle.pool_types.specs.Outcomes.{Outcome, processed_of, refused, done, wrote, needed, candidate, ended, missing, invalid, valid, number, said, entry, none}
 use Rattle.boxes.specs.Among.{among, among-cons}
-use Rattle.checks.specs.Laws.{numbered}
+use Rattle.pool_types.specs.Refusals.{numbered}
 use Rattle.checks.specs.Numbers.{refusals}
 use Rattle.admit.specs.Placed.{of_admission}
 use Rattle.store.specs.Spares.{charging}

@@ -3,6 +3,8 @@ use Rattle.peers.specs.Peers.{Standing}
 use Rattle.std.specs.Prelude.{ℕ, ◌/◌, ◌≡◌, List, length}
 use Rattle.std.proofs.Common.{eq-eqb, ne_eqb}
 use Rattle.words.specs.Lists.{yes, no}
+use Rattle.pool_types.specs.declared.Done.{Done}
+use Rattle.pool_types.specs.declared.ProcessingOutcome.{ProcessingOutcome}
 use Rattle.pool_types.specs.declared.Mempool.{Mempool}
 use Rattle.pool_types.specs.declared.Submission.{Submission}
 use Rattle.pool_types.specs.declared.Verdict.{Verdict}
@@ -17,7 +19,6 @@ use Rattle.admit.specs.Admit.{admit_spec}
 use Rattle.store.specs.World.{World, world_of, Result, unchanged}
 use Rattle.store.specs.Fits.{Kept}
 use Rattle.process.specs.Process.{Limits, standing_of, admitted, judged, processed}
-use Rattle.process.specs.declared.Processed.{Processed}
 
 -- the limits of tables in these words
 abbrev pub limits_of : List ℕ → List ℕ → Limits
@@ -29,7 +30,7 @@ result_of e b k ys a st sub ins outs = processed (limits_of e b) st (world_of e 
 
 -- from the state st, r was handed back; the words are now those of e, b and k, the peer records those of ys, and the answer buffer's words were a₀ and
 -- are a
-pub record Post (st : Mempool) (r : Processed) (e b k : List ℕ) (ys : List PeerRecord) (a₀ a : List ℕ) (s : Result) : Type 0 where
+pub record Post (st : Mempool) (r : Done ProcessingOutcome) (e b k : List ℕ) (ys : List PeerRecord) (a₀ a : List ℕ) (s : Result) : Type 0 where
   pub kept : Kept e b k ys r.mempool
   pub config : r.mempool.config ≡ st.config
   pub pass : r.mempool.pass ≡ st.pass

@@ -2,6 +2,8 @@
 -- their step.
 use Rattle.std.specs.Prelude.{ℕ, ◌/◌, ◌≤◌, ◌≡◌, true, false, List, length}
 use Rattle.words.specs.Lists.{pick}
+use Rattle.pool_types.specs.declared.Done.{Done}
+use Rattle.pool_types.specs.declared.ProcessingOutcome.{ProcessingOutcome}
 use Rattle.pool_types.specs.declared.Mempool.{Mempool}
 use Rattle.pool_types.specs.declared.Submission.{Submission}
 use Rattle.pool_types.specs.Outcomes.{processed_of, refused}
@@ -11,15 +13,14 @@ use Rattle.store.specs.Spares.{lent, Spares}
 use Rattle.pool_types.specs.Outcomes.{written_of}
 use Rattle.process.specs.Post.{Post, result_of}
 use Rattle.process.specs.Numbers.{of_submission}
-use Rattle.process.specs.declared.Processed.{Processed}
 
 -- the words of entries, boxes and cache were e, b and k and are e', b' and k', the peer records were ys and are ys', the answer buffer's words were a
 -- and are a'; the state was st, and r is handed back
-abbrev pub ProcessPromise : List ℕ → List ℕ → List ℕ → List PeerRecord → Mempool → Submission → List ℕ → List ℕ → List ℕ → List ℕ → List ℕ → List PeerRecord → List ℕ → List ℕ → Processed → Type 0
+abbrev pub ProcessPromise : List ℕ → List ℕ → List ℕ → List PeerRecord → Mempool → Submission → List ℕ → List ℕ → List ℕ → List ℕ → List ℕ → List PeerRecord → List ℕ → List ℕ → Done ProcessingOutcome → Type 0
 ProcessPromise e b k ys st sub ins outs e' b' k' ys' a a' r = Kept e b k ys st → Post st r e' b' k' ys' a a' (result_of e b k ys a st sub ins outs)
 
 -- all that it promises: the above, and what holds on any words
-abbrev pub Submits : List ℕ → List ℕ → List ℕ → List PeerRecord → Mempool → Submission → List ℕ → List ℕ → List ℕ → List ℕ → List ℕ → List PeerRecord → List ℕ → List ℕ → Processed → Type 0
+abbrev pub Submits : List ℕ → List ℕ → List ℕ → List PeerRecord → Mempool → Submission → List ℕ → List ℕ → List ℕ → List ℕ → List ℕ → List PeerRecord → List ℕ → List ℕ → Done ProcessingOutcome → Type 0
 Submits e b k ys st sub ins outs e' b' k' ys' a a' r =
     ProcessPromise e b k ys st sub ins outs e' b' k' ys' a a' r
     × (of_submission (processed_of r.outcome) ≡ true)

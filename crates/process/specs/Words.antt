@@ -7,6 +7,8 @@ use borrow.Author.Tests.{eqb-true, eqb-false, ltb-true, ltb-false, le-ltb}
 use Rattle.words.specs.Lists.{pick}
 use Rattle.words.specs.Rows.{stored, recs-store}
 use Rattle.words.specs.Tables.{of-suc, of_none, put-end}
+use Rattle.pool_types.specs.declared.Done.{Done}
+use Rattle.pool_types.specs.declared.ProcessingOutcome.{ProcessingOutcome}
 use Rattle.pool_types.specs.declared.Mempool.{Mempool}
 use Rattle.pool_types.specs.declared.Submission.{Submission}
 use Rattle.pool_types.specs.declared.ProcessingOutcome.TheVariants.{Declined}
@@ -25,7 +27,6 @@ use Rattle.pool_types.specs.Outcomes.{written_of}
 use Rattle.process.specs.Post.{Post}
 use Rattle.process.specs.Numbers.{of_submission, unfit-ours}
 use Rattle.process.specs.Promises.{ProcessPromise, Submits}
-use Rattle.process.specs.declared.Processed.{Processed}
 
 -- ---- what is said of the words
 
@@ -35,7 +36,7 @@ pub record SparesPeers (o : Outcome) (p q : List ℕ) : Type 0 where
   pub refusal : (j i : ℕ) → o ≡ refused j i → charging j ≡ false → q ≡ p
 
 -- all that a submission promises of peer words that were p and are q: what it promises of the records that they hold, and the above
-abbrev SubmitsWords : List ℕ → List ℕ → List ℕ → List ℕ → Mempool → Submission → List ℕ → List ℕ → List ℕ → List ℕ → List ℕ → List ℕ → List ℕ → List ℕ → Processed → Type 0
+abbrev SubmitsWords : List ℕ → List ℕ → List ℕ → List ℕ → Mempool → Submission → List ℕ → List ℕ → List ℕ → List ℕ → List ℕ → List ℕ → List ℕ → List ℕ → Done ProcessingOutcome → Type 0
 SubmitsWords e b k p st sub ins outs e' b' k' q a a' r =
     ProcessPromise e b k (records p) st sub ins outs e' b' k' (records q) a a' r
     × (of_submission (processed_of r.outcome) ≡ true)
@@ -60,9 +61,6 @@ module _ (p : List ℕ) (ys : List PeerRecord) where
         size = length-set ys i _ ∙ h.size;
         first = rw add-one (take-suc-set ys i _ (omega (arith, h.size)) ∙ rw (h.first, ← flat-at p i)) ∙ sym (of-suc flats p i);
       }
-
-  pub loaded-all : (i : ℕ) → Loaded p ys i → i ≡ 256 → ys ≡ flat_peers p 256
-  loaded-all i h e = sym (take_all 256 ys (omega (arith, h.size))) ∙ ap (λ (n : ℕ). take n ys) (sym e) ∙ h.first ∙ ap (flat_peers p) e
 
 -- ---- storing: the words were p and are q, and the first i of the records ys are stored
 
@@ -156,7 +154,7 @@ module _ (p : List ℕ) (room : 512 ≤ length p) where
         let n : ltb (length (flat_peers p 256)) 256 ≡ false = le-ltb (length (flat_peers p 256)) 256 (omega (arith, flats.len p 256)) in
         rw (m, n)
 
-  wide-post : {st : Mempool} {r : Processed} {e b k a₀ a : List ℕ} {s : Result} → Post st r e b k (flat_peers p 256) a₀ a s → Post st r e b k (records p) a₀ a s
+  wide-post : {st : Mempool} {r : Done ProcessingOutcome} {e b k a₀ a : List ℕ} {s : Result} → Post st r e b k (flat_peers p 256) a₀ a s → Post st r e b k (records p) a₀ a s
   wide-post {r = r} {e} {b} {k} h =
       record {
         kept = wide e b k r.mempool h.kept;
@@ -214,7 +212,7 @@ module _ {p q : List ℕ} {ys zs : List PeerRecord} (read : ys ≡ flat_peers p 
     record { asked = λ z. unmoved (ap (λ (m : Lent). m.peers) (h.asked z)); refusal = λ j i z c. unmoved ((h.refusal j i z).peers c).0 },
   )
 
-pub in_words : (e b k p a : List ℕ) (st : Mempool) (sub : Submission) (ins outs : List ℕ) {e' b' k' q a' : List ℕ} {ys zs : List PeerRecord} {r : Processed} → 512 ≤ length p
+pub in_words : (e b k p a : List ℕ) (st : Mempool) (sub : Submission) (ins outs : List ℕ) {e' b' k' q a' : List ℕ} {ys zs : List PeerRecord} {r : Done ProcessingOutcome} → 512 ≤ length p
     → ys ≡ flat_peers p 256 → length zs ≡ 256 → Stored p q zs 256 → Submits e b k ys st sub ins outs e' b' k' zs a a' r
     → SubmitsWords e b k p st sub ins outs e' b' k' q a a' r
 in_words e b k p a st sub ins outs {q = q} {zs = zs} room read size back h =

@@ -19,19 +19,12 @@ ghost use Rattle.process.specs.Words.{SparesPeers};
 
 use peer_words::{load_peers, store_peers};
 use peers::{PeerRecord, Standing, charge_peer, find_peer};
-use pool_types::{Mempool, ProcessingOutcome, Source, Submission};
+use pool_types::{Done, Mempool, ProcessingOutcome, Source, Submission};
 use store::unfit;
 use submission::{Due, submit};
 
 // The words of 256 peer records.
 const PEER_WORDS: usize = 512;
-
-// What the call hands back: the state, and what it answers.
-#[derive(Clone, Copy)]
-pub struct Processed {
-    pub mempool: Mempool,
-    pub outcome: ProcessingOutcome,
-}
 
 // ---- the peer
 
@@ -68,7 +61,7 @@ pub fn process(
     sub: Submission,
     inputs: &[u64],
     outputs: &[u64],
-) -> Processed
+) -> Done<ProcessingOutcome>
     ensures { ProcessPromise entries.old boxes.old cache.old peers.old mempool sub inputs.now outputs.now entries.new boxes.new cache.new peers.new answer.old answer.new result
         × (of_submission (processed_of result.outcome) ≡ true)
         × (all_fit entries.old boxes.old cache.old (length peers.old) mempool ≡ false → processed_of result.outcome ≡ refused (pick mempool.pass.open 20 1) 0)
@@ -89,7 +82,7 @@ pub fn process(
         outputs,
     );
     charge(peers, done.due);
-    Processed {
+    Done {
         mempool: done.mempool,
         outcome: done.outcome,
     }
@@ -108,7 +101,7 @@ pub fn process_words(
     sub: Submission,
     inputs: &[u64],
     outputs: &[u64],
-) -> Processed
+) -> Done<ProcessingOutcome>
     ensures { ProcessPromise entries.old boxes.old cache.old (records peers.old) mempool sub inputs.now outputs.now entries.new boxes.new cache.new (records peers.new) answer.old answer.new result
         × (of_submission (processed_of result.outcome) ≡ true)
         × (all_fit entries.old boxes.old cache.old (length peers.old / 2) mempool ≡ false → processed_of result.outcome ≡ refused (pick mempool.pass.open 20 1) 0)
@@ -117,7 +110,7 @@ pub fn process_words(
         × SparesPeers (processed_of result.outcome) peers.old peers.new }
 {
     if peers.len() < PEER_WORDS {
-        return Processed {
+        return Done {
             mempool,
             outcome: ProcessingOutcome::Declined(unfit(mempool.pass.open)),
         };

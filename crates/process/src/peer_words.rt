@@ -8,7 +8,7 @@ use peers::PeerRecord;
 // How many peers can have a record.
 const PEER_RECORDS: usize = 256;
 
-// Reads the first 256 records.
+// Reads the first 256 records into an array: no heap. `array::from_fn` was tried in place of the loop, and left a goal about 256 calls.
 pub fn load_peers(words: &[u64]) -> [PeerRecord; 256]
     requires { 512 ≤ length words.now }
     ensures { result ≡ flat_peers words.now 256 }

@@ -2,6 +2,7 @@
 ghost use Rattle.std.specs.Prelude.{◌≡◌, List, ℕ, ◌≤◌, ◌/◌, min, length};
 ghost use Rattle.peers.specs.Peers.{peers_of};
 ghost use Rattle.peers.specs.declared.PeerRecord.{PeerRecord};
+ghost use Rattle.pool.specs.Lent.{Same};
 ghost use Rattle.pool.specs.Pool.{tables_of};
 ghost use Rattle.checks.specs.Passed.{Passed};
 ghost use Rattle.admit.specs.Admit.{admit_spec};
@@ -14,9 +15,10 @@ ghost use Rattle.process.specs.Claims.{Ready, Sure, Claims, Offers};
 
 use admit::admission::{admit, cost_of};
 use checks::check;
-use expiring_cache::insert;
+use expiring_cache::ExpiringCacheMut;
 use peers::{Standing, used_after};
-use pool_types::{Mempool, ProcessingOutcome, Refusal, Source, Submission, Sums, Verdict};
+use pool::lent::PoolMut;
+use pool_types::{Lists, Mempool, ProcessingOutcome, Refusal, Source, Submission, Sums, Verdict};
 use store::{fits_all, unfit};
 
 // What is due from a peer, which stands so among the records in use.
@@ -84,48 +86,37 @@ fn charged(sums: Sums, source: Source, standing: Standing, cost: u64) -> Bill
 
 // A valid verdict: the charge stands, whatever the admission comes to.
 fn valid(
-    entries: &mut [u64],
-    boxes: &mut [u64],
+    pool: &mut PoolMut<'_>,
     answer: &mut [u64],
     mempool: Mempool,
     standing: Standing,
     sub: Submission,
     cost: u64,
-    inputs: &[u64],
-    outputs: &[u64],
+    lists: &Lists<'_>,
 ) -> Submitted
     requires peers_bound { mempool.sums.peers ≤ 256 }
-    requires passed { Passed 5000 entries.old boxes.old mempool (length answer.old / 4) standing sub inputs.now outputs.now }
-    ensures { (k : List ℕ) (ys : List PeerRecord) → Fits entries.old boxes.old k ys mempool →
+    requires passed { (pool.old.counts ≡ mempool.counts) × Passed 5000 pool.old.entries.now pool.old.boxes.now mempool (length answer.old / 4) standing sub lists.now.inputs.now lists.now.outputs.now }
+    ensures same { Same pool.old pool.new }
+    ensures claims { (k : List ℕ) (ys : List PeerRecord) → Fits pool.old.entries.now pool.old.boxes.now k ys mempool →
         standing ≡ standing_of sub.source (peers_of ys mempool.sums.peers) →
-        Claims (Sure entries.old boxes.old k ys mempool sub) entries.old boxes.old k mempool result entries.new boxes.new k ys answer.old answer.new
-        (admitted (admit_spec 500 (length answer.old / 4) mempool.config (tables_of entries.old boxes.old mempool.counts) sub cost inputs.now outputs.now)
-        (world_of entries.old boxes.old k ys mempool) sub cost) }
+        Claims (Sure pool.old.entries.now pool.old.boxes.now k ys mempool sub) pool.old.entries.now pool.old.boxes.now k mempool result pool.new.entries.now pool.new.boxes.now k ys answer.old answer.new
+        (admitted (admit_spec 500 (length answer.old / 4) mempool.config (tables_of pool.old.entries.now pool.old.boxes.now mempool.counts) sub cost lists.now.inputs.now lists.now.outputs.now)
+        (world_of pool.old.entries.now pool.old.boxes.now k ys mempool) sub cost) }
 {
     let bill = charged(mempool.sums, sub.source, standing, cost_of(cost, sub.size));
-    let left = admit(
-        entries,
-        boxes,
-        mempool.counts,
-        mempool.config,
-        sub,
-        cost,
-        inputs,
-        outputs,
-        answer,
-    );
+    let outcome = admit(pool, mempool.config, sub, cost, lists, answer);
     Submitted {
         mempool: Mempool {
-            counts: left.counts,
+            counts: pool.counts,
             sums: bill.sums,
             ..mempool
         },
-        outcome: left.outcome,
+        outcome,
         due: bill.due,
     }
 }
 
-// What the verdict of a submission that passed its tests comes to.
+// What the verdict of a submission that passed its tests comes to. Pool and cache are made of what is lent here, where it is known which is changed.
 fn judge(
     entries: &mut [u64],
     boxes: &mut [u64],
@@ -134,34 +125,36 @@ fn judge(
     mempool: Mempool,
     standing: Standing,
     sub: Submission,
-    inputs: &[u64],
-    outputs: &[u64],
+    lists: &Lists<'_>,
 ) -> Submitted
     requires ready { Ready entries.old boxes.old cache.old mempool }
-    requires passed { Passed 5000 entries.old boxes.old mempool (length answer.old / 4) standing sub inputs.now outputs.now }
+    requires passed { Passed 5000 entries.old boxes.old mempool (length answer.old / 4) standing sub lists.now.inputs.now lists.now.outputs.now }
     ensures { (ys : List PeerRecord) → Fits entries.old boxes.old cache.old ys mempool →
         standing ≡ standing_of sub.source (peers_of ys mempool.sums.peers) →
         Claims (Sure entries.old boxes.old cache.old ys mempool sub) entries.old boxes.old cache.old mempool result entries.new boxes.new cache.new ys answer.old answer.new
-        (judged 500 (length answer.old / 4) mempool (world_of entries.old boxes.old cache.old ys mempool) sub inputs.now outputs.now sub.verdict) }
+        (judged 500 (length answer.old / 4) mempool (world_of entries.old boxes.old cache.old ys mempool) sub lists.now.inputs.now lists.now.outputs.now sub.verdict) }
 {
     match sub.verdict {
         Verdict::Absent => Submitted::uncharged(mempool, ProcessingOutcome::VerdictNeeded),
         Verdict::Invalid => {
-            let cached = insert(
-                cache,
-                mempool.cached,
-                mempool.config.invalidation_capacity,
-                sub.time,
-                sub.id,
-            );
+            let mut known = ExpiringCacheMut::new(cache, mempool.cached);
+            known.insert(mempool.config.invalidation_capacity, sub.time, sub.id);
             Submitted::uncharged(
-                Mempool { cached, ..mempool },
+                Mempool {
+                    cached: known.len(),
+                    ..mempool
+                },
                 ProcessingOutcome::Declined(Refusal::InvalidVerdict),
             )
         }
-        Verdict::Valid(cost) => valid(
-            entries, boxes, answer, mempool, standing, sub, cost, inputs, outputs,
-        ),
+        Verdict::Valid(cost) => {
+            let mut pool = PoolMut {
+                entries,
+                boxes,
+                counts: mempool.counts,
+            };
+            valid(&mut pool, answer, mempool, standing, sub, cost, lists)
+        }
     }
 }
 
@@ -188,6 +181,7 @@ pub fn submit(
         let refusal = unfit(mempool.pass.open);
         return Submitted::uncharged(mempool, ProcessingOutcome::Declined(refusal));
     }
+    let lists = Lists { inputs, outputs };
     let tested = check(
         entries,
         boxes,
@@ -196,13 +190,12 @@ pub fn submit(
         answer.len() / 4,
         standing,
         sub,
-        inputs,
-        outputs,
+        &lists,
     );
     match tested {
         Err(first) => Submitted::uncharged(mempool, ProcessingOutcome::Declined(first)),
         Ok(()) => judge(
-            entries, boxes, cache, answer, mempool, standing, sub, inputs, outputs,
+            entries, boxes, cache, answer, mempool, standing, sub, &lists,
         ),
     }
 }

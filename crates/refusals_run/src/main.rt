@@ -15,6 +15,7 @@ use words::ids::Id;
 
 // A start: an empty pool of at most 3 transactions.
 fn begin(entries: &[u64], boxes: &[u64]) -> Result<Mempool, Refusal> {
+    // lent words, no heap
     let cache = [0u64; 23];
     let config = MempoolConfig {
         capacity: 3,
@@ -98,6 +99,7 @@ fn submit(
     inputs: &[u64],
     outputs: &[u64],
 ) -> io::Result<Mempool> {
+    // lent words, no heap
     let mut cache = [0u64; 23];
     let mut peers = [0u64; 512];
     let mut answer = [0u64; 8];
@@ -372,6 +374,7 @@ fn run(
 
 // One store: room for 4 transactions, and for the records of 5,000 inputs and an output. The inputs are one confirmed box, 5,001 times.
 fn main(rt: HostRuntime) -> io::Result<()> {
+    // lent words, no heap
     let mut entries = [0u64; 74];
     let mut boxes = [0u64; 81278];
     let inputs = [1u64; 25005];

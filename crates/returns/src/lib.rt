@@ -25,10 +25,12 @@ ghost use Rattle.returns.specs.Post.{Tabled, Cached, recounted, recached};
 ghost use Rattle.returns.specs.Numbers.{of_return, of_invalidation};
 
 use arguments::{are_whole, count_records, height_key};
+use boxes::lists::{Ids, TxIds};
 use entries::fields::PoolEntry;
-use entries::table::is_pooled;
-use pool::{fits, remove};
-use pool_types::{Counts, Mempool, MempoolConfig, Refusal, Source};
+use expiring_cache::ExpiringCacheMut;
+use pool::fits;
+use pool::lent::{Pool, PoolMut};
+use pool_types::{Done, Lists, Mempool, MempoolConfig, Refusal, Source};
 use store::{fits_cache, lacks_room};
 use weight::fee_per_factor;
 use words::ids::Id;
@@ -50,19 +52,6 @@ pub struct UnconfirmedTx {
     pub source: Source,
 }
 
-// What the calls hand back: the state, and what they answer.
-#[derive(Clone, Copy)]
-pub struct Returned {
-    pub mempool: Mempool,
-    pub outcome: Result<(), Refusal>,
-}
-
-#[derive(Clone, Copy)]
-pub struct Invalidated {
-    pub mempool: Mempool,
-    pub outcome: Result<(), Refusal>,
-}
-
 // ---- a return
 
 // Refusals 20, 1, 3, 23, 27: the first that is met. Counts that do not fit what is lent are refused as lists that are not whole.
@@ -72,13 +61,12 @@ fn check_return(
     boxes: &[u64],
     mempool: Mempool,
     tx: UnconfirmedTx,
-    inputs: &[u64],
-    outputs: &[u64],
+    lists: &Lists<'_>,
 ) -> Result<(), Refusal>
     ensures refusal_value { of_return result ≡ true }
-    ensures room { code_of result ≡ 0 → Room entries.now boxes.now mempool.counts (records 4 inputs.now + records 5 outputs.now) }
+    ensures room { code_of result ≡ 0 → Room entries.now boxes.now mempool.counts (records 4 lists.now.inputs.now + records 5 lists.now.outputs.now) }
     ensures value { PoolFits entries.now boxes.now mempool.counts → PoolKept entries.now boxes.now mempool.counts
-        → code_of result ≡ return_refusal (entries_room entries.now) (boxes_room boxes.now) mempool (tables_of entries.now boxes.now mempool.counts) tx inputs.now outputs.now }
+        → code_of result ≡ return_refusal (entries_room entries.now) (boxes_room boxes.now) mempool (tables_of entries.now boxes.now mempool.counts) tx lists.now.inputs.now lists.now.outputs.now }
     ensures unfit { fits_test entries.now boxes.now mempool.counts ≡ false → code_of result ≡ pick mempool.pass.open 20 1 }
 {
     if mempool.pass.open {
@@ -88,16 +76,17 @@ fn check_return(
     if !fits(entries, boxes, counts) {
         return Err(Refusal::Lists);
     }
-    if !are_whole(inputs, 4, outputs, 5) {
+    if !are_whole(lists.inputs, 4, lists.outputs, 5) {
         return Err(Refusal::Lists);
     }
     if MAX_TX_SIZE < tx.size {
         return Err(Refusal::Size);
     }
-    if is_pooled(entries, counts.pooled, tx.id) {
+    let pool = Pool::new(entries, boxes, counts);
+    if pool.entries().is_pooled(tx.id) {
         return Err(Refusal::AlreadyPooled);
     }
-    if lacks_room(entries, boxes, counts, inputs, 4, outputs, 5) {
+    if lacks_room(&pool, lists.inputs, 4, lists.outputs, 5) {
         return Err(Refusal::NoRoom);
     }
     Ok(())
@@ -105,13 +94,8 @@ fn check_return(
 
 // Its entry: cost and times as they are given, the cost not raised to its size, and the weight its base.
 #[tactic(auto, unfolding(entries::specs::Layout::entry_of, crate::specs::Returns::returned_entry))]
-fn returned_entry(
-    config: MempoolConfig,
-    tx: UnconfirmedTx,
-    inputs: &[u64],
-    outputs: &[u64],
-) -> PoolEntry
-    ensures { entry_of result ≡ returned_entry config tx inputs.now outputs.now }
+fn returned_entry(config: MempoolConfig, tx: UnconfirmedTx, lists: &Lists<'_>) -> PoolEntry
+    ensures { entry_of result ≡ returned_entry config tx lists.now.inputs.now lists.now.outputs.now }
 {
     let cost = u64::from(tx.cost);
     let base = fee_per_factor(tx.fee, tx.size, cost, config.fee_strategy);
@@ -124,8 +108,8 @@ fn returned_entry(
         validation_cost: tx.validation_cost,
         created: tx.created,
         last_checked: tx.last_checked,
-        height_key: height_key(outputs, 5, 4),
-        inputs: count_records(inputs, 4) as u64,
+        height_key: height_key(lists.outputs, 5, 4),
+        inputs: count_records(lists.inputs, 4) as u64,
     }
 }
 
@@ -135,16 +119,28 @@ fn enter(
     boxes: &mut [u64],
     mempool: Mempool,
     e: PoolEntry,
-    inputs: &[u64],
-    outputs: &[u64],
+    lists: &Lists<'_>,
 ) -> Mempool
-    requires { Room entries.old boxes.old mempool.counts (count_of 4 inputs.now + count_of 5 outputs.now) }
+    requires { Room entries.old boxes.old mempool.counts (count_of 4 lists.now.inputs.now + count_of 5 lists.now.outputs.now) }
     ensures { PoolKept entries.old boxes.old mempool.counts → pooled (id_of e.id) (entries_of entries.old mempool.counts.pooled) ≡ false
-        → Tabled entries.new boxes.new mempool result (insert_tx (entry_of e) (ids_of 4 inputs.now) (ids_of 5 outputs.now) (tables_of entries.old boxes.old mempool.counts)) }
+        → Tabled entries.new boxes.new mempool result (insert_tx (entry_of e) (ids_of 4 lists.now.inputs.now) (ids_of 5 lists.now.outputs.now) (tables_of entries.old boxes.old mempool.counts)) }
 {
-    let before = mempool.counts;
-    let counts = pool::insert(entries, boxes, before, e, inputs, 4, outputs, 5);
-    Mempool { counts, ..mempool }
+    let mut pool = PoolMut {
+        entries,
+        boxes,
+        counts: mempool.counts,
+    };
+    pool.insert(
+        e,
+        &TxIds {
+            inputs: Ids::new(lists.inputs, 4),
+            outputs: Ids::new(lists.outputs, 5),
+        },
+    );
+    Mempool {
+        counts: pool.counts,
+        ..mempool
+    }
 }
 
 // Gives a transaction back to the pool, without a verdict. On words and counts that no start and calls left it is safe, and answers with a
@@ -157,7 +153,7 @@ pub fn return_to_pool(
     tx: UnconfirmedTx,
     inputs: &[u64],
     outputs: &[u64],
-) -> Returned
+) -> Done<Result<(), Refusal>>
     ensures return_promise { ReturnPromise entries.old boxes.old mempool tx inputs.now outputs.now entries.new boxes.new result.mempool (done_of result.outcome) }
     ensures outcome_value { of_return result.outcome ≡ true }
     ensures by_index { (k : List ℕ) (ys : List PeerRecord) (a : List ℕ) → Spares (done_of result.outcome)
@@ -165,30 +161,39 @@ pub fn return_to_pool(
         (lent entries.new boxes.new k ys a result.mempool) }
     ensures outcome_value_2 { fits_test entries.old boxes.old mempool.counts ≡ false → done_of result.outcome ≡ refused (pick mempool.pass.open 20 1) 0 }
 {
-    if let Err(refusal) = check_return(entries, boxes, mempool, tx, inputs, outputs) {
-        return Returned {
+    let lists = Lists { inputs, outputs };
+    if let Err(refusal) = check_return(entries, boxes, mempool, tx, &lists) {
+        return Done {
             mempool,
             outcome: Err(refusal),
         };
     }
-    let e = returned_entry(mempool.config, tx, inputs, outputs);
-    Returned {
-        mempool: enter(entries, boxes, mempool, e, inputs, outputs),
+    let e = returned_entry(mempool.config, tx, &lists);
+    Done {
+        mempool: enter(entries, boxes, mempool, e, &lists),
         outcome: Ok(()),
     }
 }
 
 // ---- an invalidation
 
-// Takes it out of the pool with its records, where it is there.
+// Takes it out of the pool with its records, where it is there. The call lends tables and hands a state by value, so that here the pool is made of them,
+// and the clause asks that they fit.
 fn take_out(entries: &mut [u64], boxes: &mut [u64], mempool: Mempool, id: Id) -> Mempool
     requires { PoolFits entries.old boxes.old mempool.counts }
     ensures value { result ≡ recounted mempool result.counts }
     ensures tabled { PoolKept entries.old boxes.old mempool.counts → Tabled entries.new boxes.new mempool result (remove_tx (id_of id) (tables_of entries.old boxes.old mempool.counts)) }
 {
-    let before = mempool.counts;
-    let counts = remove(entries, boxes, before, id);
-    Mempool { counts, ..mempool }
+    let mut pool = PoolMut {
+        entries,
+        boxes,
+        counts: mempool.counts,
+    };
+    pool.remove(id);
+    Mempool {
+        counts: pool.counts,
+        ..mempool
+    }
 }
 
 // Puts an id into the cache, where it is not there.
@@ -198,14 +203,12 @@ pub fn remember(cache: &mut [u64], mempool: Mempool, time: u64, id: Id) -> Mempo
     ensures cache_ok_2 { CacheOk cache.new result.cached × (result ≡ recached mempool result.cached) }
     ensures cached { CacheKept cache.old mempool.cached → Cached cache.old cache.new mempool result time (id_of id) }
 {
-    let cached = expiring_cache::insert(
-        cache,
-        mempool.cached,
-        mempool.config.invalidation_capacity,
-        time,
-        id,
-    );
-    Mempool { cached, ..mempool }
+    let mut known = ExpiringCacheMut::new(cache, mempool.cached);
+    known.insert(mempool.config.invalidation_capacity, time, id);
+    Mempool {
+        cached: known.len(),
+        ..mempool
+    }
 }
 
 // Takes a transaction out of the pool, where it is there, and remembers its id as invalid. Safe as `return_to_pool` is.
@@ -217,7 +220,7 @@ pub fn invalidate(
     mempool: Mempool,
     time: u64,
     id: Id,
-) -> Invalidated
+) -> Done<Result<(), Refusal>>
     ensures invalidate_promise { InvalidatePromise entries.old boxes.old cache.old mempool time (id_of id) entries.new boxes.new cache.new result.mempool (done_of result.outcome) }
     ensures outcome_value { of_invalidation result.outcome ≡ true }
     ensures spares { (ys : List PeerRecord) (a : List ℕ) → Spares (done_of result.outcome)
@@ -226,19 +229,19 @@ pub fn invalidate(
     ensures outcome_value_2 { cache_fits entries.old boxes.old cache.old mempool ≡ false → done_of result.outcome ≡ refused (pick mempool.pass.open 20 1) 0 }
 {
     if mempool.pass.open {
-        return Invalidated {
+        return Done {
             mempool,
             outcome: Err(Refusal::PassOpen),
         };
     }
     if !fits_cache(entries, boxes, cache, mempool) {
-        return Invalidated {
+        return Done {
             mempool,
             outcome: Err(Refusal::Lists),
         };
     }
     let without = take_out(entries, boxes, mempool, id);
-    Invalidated {
+    Done {
         mempool: remember(cache, without, time, id),
         outcome: Ok(()),
     }

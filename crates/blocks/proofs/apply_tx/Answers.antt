@@ -2,5 +2,5 @@
 use Rattle.blocks.specs.Steps.{does-confirm, does-both}
 use Rattle.blocks.proofs.apply_tx.Goals as goal
 
-pub returns : goal.returns
-returns c = λ time. does-both (does-confirm time _ c.take_out-next.ensures) c.spend_inputs.ensures
+pub returns-clause-does : goal.returns-clause-does
+returns-clause-does c = λ time. does-both (does-confirm time _ c.take_out-next.ensures.does) c.spend_inputs.ensures.does

@@ -3,8 +3,8 @@ use mathlib.Core.Path.{sym, ◌∙◌}
 use Rattle.store.specs.Fits.{cache-fits}
 use Rattle.cleanup.proofs.check_answer.Goals as goal
 
-pub count_inputs-requires : goal.count_inputs-requires
-count_inputs-requires c = (cache-fits _ _ _ _ (sym c.fits_cache.ensures ∙ c.if-not-fits_cache.false)).0.pool.boxes
+pub new-boxes-requires : goal.new-boxes-requires
+new-boxes-requires c = (cache-fits _ _ _ _ (sym c.fits_cache.ensures ∙ c.if-not-fits_cache.false)).0.pool.boxes
 
 pub returns-clause-fits : goal.returns-clause-fits
 returns-clause-fits c = λ z. cache-fits _ _ _ _ (sym c.fits_cache.ensures ∙ c.if-not-fits_cache.false)

@@ -1,17 +1,13 @@
 -- `cleanup::first_due` meets its contract. The loop's invariant: from entry i on the same is found as from the first on. Assumes nothing.
 use native.Mathlib.Omega.{arith}
-use Rattle.entries.specs.Layout.{ok-fewer}
 use Rattle.cleanup.specs.Search.{seek-over, seek_stop, seek-take, seek-end}
 use Rattle.cleanup.proofs.first_due.Goals as goal
-
-pub look_at-requires : goal.look_at-requires
-look_at-requires c = ok-fewer _ _ _ c.requires (omega arith)
 
 pub loop-i-preserved : goal.loop-i-preserved
 loop-i-preserved c = seek-over _ _ _ _ _ (omega arith) c.loop-i.invariant c.look_at.ensures c.in-Over.is
 
-pub returns-then-n-i : goal.returns-then-n-i
-returns-then-n-i c = seek-end _ _ _ _ _ c.if-n-i.true c.loop-i.invariant
+pub returns-then-len-i : goal.returns-then-len-i
+returns-then-len-i c = seek-end _ _ _ _ _ (omega arith) c.loop-i.invariant
 
 pub returns-in-Stop : goal.returns-in-Stop
 returns-in-Stop c = seek_stop _ _ _ _ _ (omega arith) c.loop-i.invariant c.look_at.ensures c.in-Stop.is

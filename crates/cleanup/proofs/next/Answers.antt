@@ -2,7 +2,7 @@
 use native.Mathlib.Omega.{arith}
 use mathlib.Core.Path.{refl}
 use Rattle.pool_types.specs.Outcomes.{next_of}
-use Rattle.entries.specs.Layout.{ok-room, ok-fewer}
+use Rattle.entries.specs.Layout.{ok-room}
 use Rattle.cleanup.specs.Laws.{only-state, spares-offered, spares-closed, next-closed, next-unfit, next-again}
 use Rattle.cleanup.proofs.PassLaws.{next-found, next-ended}
 use Rattle.cleanup.proofs.next.Goals as goal
@@ -17,14 +17,11 @@ pub returns-then-pass-clause-next_promise : goal.returns-then-pass-clause-next_p
 unfolding next_of
 returns-then-pass-clause-next_promise c = λ b k ys f. next-again _ c.if-not-pass.false c.if-pass.true _ b k ys f refl
 
-pub first_due-requires : goal.first_due-requires
-first_due-requires c = ok-room _ _ (omega arith)
-
-pub id_at-requires : goal.id_at-requires
-id_at-requires c = ok-fewer _ _ _ (ok-room _ c.args.mempool.counts.pooled (omega arith)) (omega (arith, c.first_due.ensures.within _ c.in-Some.is))
+pub new-entries-requires : goal.new-entries-requires
+new-entries-requires c = ok-room _ _ (omega arith)
 
 pub returns-in-Some-clause-next_promise : goal.returns-in-Some-clause-next_promise
-returns-in-Some-clause-next_promise c = next-found _ _ c.if-not-pass.false c.if-pass.false c.first_due.ensures _ _ c.in-Some.is c.id_at.ensures c.offer.ensures.pass_only
+returns-in-Some-clause-next_promise c = next-found _ _ c.if-not-pass.false c.if-pass.false (rw (c.new-entries.ensures.0, c.new-entries.ensures.1) at c.first_due.ensures) _ _ c.in-Some.is (rw c.new-entries.ensures.0 at c.id_at.ensures) c.offer.ensures.pass_only
 
 pub returns-in-Some-clause-by_index : goal.returns-in-Some-clause-by_index
 returns-in-Some-clause-by_index c = λ b k ys a. spares-offered _ _ _ c.offer.ensures.pass_only
@@ -33,7 +30,7 @@ pub returns-in-Some-clause-mempool_value : goal.returns-in-Some-clause-mempool_v
 returns-in-Some-clause-mempool_value c = only-state c.offer.ensures.pass_only
 
 pub returns-in-None-clause-next_promise : goal.returns-in-None-clause-next_promise
-returns-in-None-clause-next_promise c = next-ended _ _ c.if-not-pass.false c.if-pass.false c.first_due.ensures c.in-None.is c.end_pass.ensures.pass_only
+returns-in-None-clause-next_promise c = next-ended _ _ c.if-not-pass.false c.if-pass.false (rw (c.new-entries.ensures.0, c.new-entries.ensures.1) at c.first_due.ensures) c.in-None.is c.end_pass.ensures.pass_only
 
 pub returns-in-None-clause-by_index : goal.returns-in-None-clause-by_index
 returns-in-None-clause-by_index c = λ b k ys a. spares-closed _ _ c.end_pass.ensures.pass_only

@@ -23,4 +23,5 @@ returns c =
     let long : a.bins ≤ a.longest = omega (arith, s.if-longest-bins.false) in
     let room : a.bins + 1 ≤ length a.answer.now / 2 = omega (arith, s.if-answer-n.false) in
     let pooled : a.mempool.counts.pooled ≤ entries_room a.entries.now = omega (arith, s.if-entries_room-mempool.false, s.entries_room.ensures) in
-    drawn-listed _ _ _ _ _ _ _ _ _ _ (omega arith) (histogram-drawn _ _ _ _ _ _ pooled room some long) c.clear_bins.ensures c.add_entries.ensures
+    let counted = rw (c.new-entries.ensures.0, c.new-entries.ensures.1) at c.add_entries.ensures in
+    drawn-listed _ _ _ _ _ _ _ _ _ _ (omega arith) (histogram-drawn _ _ _ _ _ _ pooled room some long) c.clear_bins.ensures counted

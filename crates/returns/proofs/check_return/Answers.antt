@@ -8,8 +8,5 @@ use Rattle.returns.proofs.check_return.Goals as goal
 pub returns-then-not-fits-clause-value : goal.returns-then-not-fits-clause-value
 returns-then-not-fits-clause-value c = λ f k. not-met c.fits.ensures (ap not c.if-not-fits.true) (fits-holds _ _ _ f)
 
-pub is_pooled-requires : goal.is_pooled-requires
-is_pooled-requires c = (fits-true _ _ _ (sym c.fits.ensures ∙ c.if-not-fits.false)).entries
-
-pub lacks_room-requires-clause-pool_fits : goal.lacks_room-requires-clause-pool_fits
-lacks_room-requires-clause-pool_fits c = fits-true _ _ _ (sym c.fits.ensures ∙ c.if-not-fits.false)
+pub new-pool-requires : goal.new-pool-requires
+new-pool-requires c = fits-true _ _ _ (sym c.fits.ensures ∙ c.if-not-fits.false)

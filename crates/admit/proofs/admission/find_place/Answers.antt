@@ -8,8 +8,9 @@ use Rattle.admit.specs.Admission.{contest-free}
 use Rattle.admit.proofs.admission.find_place.Goals as goal
 
 pub returns-clause-leaves : goal.returns-clause-leaves
-returns-clause-leaves c = let a = c.args in
-    let s = c.seat.ensures in λ k new.
-    contest-free _ _ _ _ _ _ _ _ _ _ _ _ _ _
-    (no-conflict (ids_of 5 a.inputs.now) (boxes_of a.boxes.now a.counts.records) (sym (c.any_spent.ensures k.boxes) ∙ c.if-any_spent.false))
-    (of_none (ids 4) _) (s.leaves k new)
+returns-clause-leaves c = let p = c.args.pool.now in
+    let spent = rw (c.boxes.ensures.0, c.boxes.ensures.1, c.new.ensures.0, c.new.ensures.1) at c.any_spent.ensures in
+    λ k new.
+    contest-free _ _ _ _ _ _ _ _ _ _ _ _ _ _ _
+    (no-conflict (ids_of 5 c.args.lists.now.inputs.now) (boxes_of p.boxes.now p.counts.records) (sym (spent k.boxes) ∙ c.if-any_spent.false))
+    (rw (c.new-2.ensures.0, c.new-2.ensures.1) (of_none (ids 4) _)) (c.seat.ensures.leaves k new)

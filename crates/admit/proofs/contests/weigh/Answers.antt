@@ -5,18 +5,17 @@ use Rattle.admit.specs.Contests.{weighty-none, weighty-room, weighty-more, weigh
 use Rattle.admit.proofs.contests.weigh.Goals as goal
 
 pub loop-i-init : goal.loop-i-init
-loop-i-init c = (weighty-none _, λ k. weighing-none _ _ _)
+loop-i-init c = (weighty-none _, λ k. weighing-none _ _ _ _)
 
 pub add_word-sum-requires : goal.add_word-sum-requires
-add_word-sum-requires c = weighty-room _ _ _ c.loop-i-test.true c.requires.n_bound.1 c.loop-i.invariant.0
+add_word-sum-requires c = weighty-room _ _ _ (omega arith) c.requires c.loop-i.invariant.0
 
 pub loop-i-preserved : goal.loop-i-preserved
 loop-i-preserved c =
-    let h = c.loop-i-test.true in
     let w = c.loop-i.invariant in (
-      weighty-more _ _ _ _ _ h w.0 (omega arith) c.add_word-sum.ensures,
-      λ k. weighing-more _ _ _ _ _ _ _ _ h (w.1 k) c.id_at.ensures (c.weight_of.ensures k) c.add_word-sum.ensures,
+      weighty-more _ _ _ _ _ (omega arith) w.0 (omega arith) c.add_word-sum.ensures,
+      λ k. weighing-more _ _ _ _ _ _ _ _ _ (omega arith) (w.1 k) c.id_at.ensures (c.weight_of.ensures k) c.add_word-sum.ensures,
     )
 
 pub returns : goal.returns
-returns c k = weighing-all _ _ _ _ _ c.loop-i-test.false (c.loop-i.invariant.1 k)
+returns c k = weighing-all _ _ _ _ _ _ (omega arith) (c.loop-i.invariant.1 k)

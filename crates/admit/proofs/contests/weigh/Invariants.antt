@@ -1,6 +1,7 @@
-use Rattle.entries.specs.Layout.{EntriesKept, entries_of}
+use Rattle.entries.specs.Views.{KeptIn, entries_in}
+use Rattle.boxes.specs.Views.{count_in}
 use Rattle.admit.specs.Contests.{Weighty, Weighing}
 use Rattle.admit.proofs.contests.weigh.Given as goal
 
 abbrev pub invariant-loop-i : goal.invariant-loop-i
-invariant-loop-i l = Weighty l.n l.i l.sum × (EntriesKept l.entries l.pooled → Weighing (entries_of l.entries l.pooled) l.list l.n l.i l.sum)
+invariant-loop-i l = Weighty (count_in l.list) l.i l.sum × (KeptIn l.entries → Weighing (entries_in l.entries) l.list.width l.list.words.now (count_in l.list) l.i l.sum)

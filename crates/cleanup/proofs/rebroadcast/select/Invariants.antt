@@ -1,6 +1,6 @@
-use Rattle.boxes.specs.Flat.{ids_of}
+use Rattle.boxes.specs.Views.{ids_in}
 use Rattle.cleanup.specs.Selecting.{Selecting}
 use Rattle.cleanup.proofs.rebroadcast.select.Given as goal
 
 abbrev pub invariant-loop-i : goal.invariant-loop-i
-invariant-loop-i l = Selecting l.initial.answer l.answer l.most (ids_of 4 l.confirmed) l.boxes l.counts.records l.entries l.counts.pooled l.i l.n
+invariant-loop-i l = Selecting l.initial.answer l.answer l.most (ids_in l.confirmed) l.pool.boxes.now l.pool.counts.records l.pool.entries.now l.pool.counts.pooled l.i l.n

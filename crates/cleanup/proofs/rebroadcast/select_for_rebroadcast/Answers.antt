@@ -18,12 +18,13 @@ returns-in_err-check_rebroadcast-clause-rebroadcast_promise c =
     let p = err_from_is_err_and c.from_residual.result c.from_residual.ensures.1 in
     rw (p.1, p.2) (λ k ys _ _. sent-refused _ _ _ _ c.check_rebroadcast.ensures.value _ _ k ys _ c.in_err-check_rebroadcast.was c.check_rebroadcast.ensures.refusal_value)
 
-pub select-requires : goal.select-requires
-select-requires c = fits-true _ _ _ (met c.fits.ensures (ap not c.if-not-fits.false))
+pub new-pool-requires : goal.new-pool-requires
+new-pool-requires c = fits-true _ _ _ (met c.fits.ensures (ap not c.if-not-fits.false))
 
 pub returns-clause-rebroadcast_promise : goal.returns-clause-rebroadcast_promise
-returns-clause-rebroadcast_promise c = λ k ys _ g. sent-selected _ _ _ _ c.check_rebroadcast.ensures.value _ _ k ys (ap code_of c.in_ok-check_rebroadcast.was) _ _ c.select.ensures.upper_bound (c.select.ensures.selected g)
+returns-clause-rebroadcast_promise c = λ k ys _ g. sent-selected _ _ _ _ c.check_rebroadcast.ensures.value _ _ k ys (ap code_of c.in_ok-check_rebroadcast.was) _ _ (rw c.new-pool.ensures.2 at c.select.ensures.upper_bound)
+    ((rw (c.new-pool.ensures.0, c.new-pool.ensures.1, c.new-pool.ensures.2, c.new.ensures.0, c.new.ensures.1) at c.select.ensures.selected) g)
 
 pub returns-clause-told : goal.returns-clause-told
 unfolding listed_of
-returns-clause-told c = told_wrote _ _ _ refl (sent-placed c.args.answer.now _ c.args.confirmed.now _ c.check_rebroadcast.ensures.value (ap code_of c.in_ok-check_rebroadcast.was) c.select.ensures.upper_bound)
+returns-clause-told c = told_wrote _ _ _ refl (sent-placed c.args.answer.now _ c.args.confirmed.now _ c.check_rebroadcast.ensures.value (ap code_of c.in_ok-check_rebroadcast.was) (rw c.new-pool.ensures.2 at c.select.ensures.upper_bound))

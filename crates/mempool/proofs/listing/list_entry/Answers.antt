@@ -3,4 +3,4 @@ use Rattle.mempool.specs.Listing.{row_put}
 use Rattle.mempool.proofs.listing.list_entry.Goals as goal
 
 pub returns : goal.returns
-returns c = rw c.put_row.ensures (row_put _ _ _ _ _ _ c.requires.i_in_bounds c.id_at-id.ensures c.weight_at-weight.ensures c.base_at-base.ensures)
+returns c = rw c.put_words.ensures (row_put _ _ _ _ _ _ c.requires.1 c.id_at-id.ensures c.weight_at.ensures c.base_at.ensures)

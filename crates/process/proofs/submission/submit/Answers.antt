@@ -2,7 +2,7 @@
 use mathlib.Core.Bool.{not}
 use mathlib.Core.Path.{sym, ap, ◌∙◌}
 use Rattle.pool_types.specs.Refusals.{code_of}
-use Rattle.checks.specs.Laws.{numbered}
+use Rattle.pool_types.specs.Refusals.{numbered}
 use Rattle.checks.specs.Passed.{unpooled}
 use Rattle.process.specs.Numbers.{refused-ours}
 use Rattle.process.specs.Post.{stopped, goes_on}
@@ -29,9 +29,6 @@ returns-in-Err c =
 
 pub judge-requires-clause-ready : goal.judge-requires-clause-ready
 judge-requires-clause-ready c = let f = ready _ _ _ _ _ c.fits_all.ensures (ap not c.if-not-fits_all.false) in f
-
-pub judge-requires-clause-passed : goal.judge-requires-clause-passed
-judge-requires-clause-passed c = c.check-tested.ensures.passed (ap code_of c.in-Ok.is)
 
 pub returns-in-Ok : goal.returns-in-Ok
 returns-in-Ok c =
