@@ -1,29 +1,24 @@
 -- What the exported calls leave, by the words of the C side: the equations of the calls that they export, through the decodings of `State` and
 -- the numbers of `Codes`.
-use Rattle.std.specs.Prelude.{ℕ, ◌/◌, ◌^◌, ◌≤◌, ◌<◌, ◌≡◌, refl, Bool, true, false, List, length}
+use Rattle.std.specs.Prelude.{ℕ, ◌/◌, ◌≤◌, ◌<◌, ◌≡◌, refl, Bool, true, false, List, length}
 use Rattle.std.proofs.Common.{sym, ◌∙◌, arith}
 use Rattle.std.proofs.Math.Path.{ap}
-use Rattle.std.proofs.Math.Decide.{dec_lt}
-use Rattle.std.proofs.lemmas.Bool.{lt-leb}
 use Rattle.words.specs.Lists.{pick}
-use Rattle.words.specs.Sums.{cap}
 use Rattle.pool_types.specs.declared.Mempool.{Mempool}
 use Rattle.pool_types.specs.declared.Submission.{Submission}
 use Rattle.pool_types.specs.declared.ProcessingOutcome.{ProcessingOutcome}
-use Rattle.pool_types.specs.Outcomes.{Outcome, processed_of, refused}
+use Rattle.pool_types.specs.Outcomes.{processed_of, refused}
 use Rattle.peers.specs.declared.PeerRecord.{PeerRecord}
-use Rattle.entries.specs.Layout.{entries_room}
-use Rattle.store.specs.Fits.{cache_fits, all_fit}
-use Rattle.store.specs.Spares.{Spares, spared-all}
+use Rattle.store.specs.Fits.{all_fit}
+use Rattle.store.specs.Spares.{Spares}
 use Rattle.store.specs.Spares.{Lent as Held, lent as held}
 use Rattle.pool_types.specs.Outcomes.{written_of as told_of}
 use Rattle.process.specs.Promises.{ProcessPromise}
 use Rattle.process.specs.Numbers.{of_submission}
-use Rattle.process.specs.declared.Processed.{Processed}
+use Rattle.pool_types.specs.declared.Done.{Done}
 use Rattle.host.specs.State.{pass_of, state_of, submission_of, left_words, left-held}
 use Rattle.host.specs.Codes.{code_of, result_of}
 use Rattle.host.specs.Results.{filled, lacking, Says}
-use Rattle.host.specs.declared.submission.Asked.{Asked}
 use Rattle.host.specs.Spared.{Changed, changed, left-spares}
 
 -- the words of the lent tables and of the answer buffer, and the peer records
@@ -44,7 +39,7 @@ held_by w s = held w.entries w.boxes w.cache w.peers w.answer (state_of s)
 -- ---- a submission
 
 -- what process promises where the words hold the state st, and it answers r
-abbrev pub Promised : Lent → Lent → Mempool → Submission → List ℕ → List ℕ → Processed → Type 0
+abbrev pub Promised : Lent → Lent → Mempool → Submission → List ℕ → List ℕ → Done ProcessingOutcome → Type 0
 Promised w₀ w st a ins outs r =
     ProcessPromise w₀.entries w₀.boxes w₀.cache w₀.peers st a ins outs w.entries w.boxes w.cache w.peers w₀.answer w.answer r
 
@@ -76,7 +71,7 @@ pub record Submitted (w₀ w : Lent) (s₀ s r₀ r sub ins outs : List ℕ) (co
   pub ran : 25 ≤ length s₀ → lacking (length sub) 11 (length r₀) ≡ false → Ran w₀ w s₀ s r₀ r sub ins outs code
 
 -- from what process says of the state and the submission that were read
-module _ (w₀ w : Lent) (s₀ s r₀ r' sub ins outs : List ℕ) {st : Mempool} {a : Submission} (r : Processed) (h : 25 ≤ length s₀) (e : st ≡ state_of s₀) (f : a ≡ submission_of sub)
+module _ (w₀ w : Lent) (s₀ s r₀ r' sub ins outs : List ℕ) {st : Mempool} {a : Submission} (r : Done ProcessingOutcome) (h : 25 ≤ length s₀) (e : st ≡ state_of s₀) (f : a ≡ submission_of sub)
     (p : Promised w₀ w st a ins outs r)
     (o : of_submission (processed_of r.outcome) ≡ true)
     (u : Unfit w₀ st r.outcome)
@@ -98,106 +93,33 @@ module _ (w₀ w : Lent) (s₀ s r₀ r' sub ins outs : List ℕ) {st : Mempool}
         few = t;
       }
 
--- ---- what is read, and what is stored
-
--- too few words: the state handed on fits no table, so that process refuses with 20 or 1
-pub record Refusing (o : Bool) (r : Asked) : Type 0 where
-  pub whole : r.whole ≡ false
-  pub pooled : r.mempool.counts.pooled ≡ cap
-  pub pass : r.mempool.pass.«open» ≡ o
-
-pub record Reading (s sub : List ℕ) (r : Asked) : Type 0 where
-  pub whole : r.whole ≡ true
-  pub state : r.mempool ≡ state_of s
-  pub submission : r.sub ≡ submission_of sub
-
--- with a result record of m words
-pub record Asks (s : List ℕ) (m : ℕ) (sub : List ℕ) (r : Asked) : Type 0 where
-  pub short_state : length s < 25 → Refusing false r
-  pub short : 25 ≤ length s → lacking (length sub) 11 m ≡ true → Refusing (pass_of s).«open» r
-  pub read : 25 ≤ length s → lacking (length sub) 11 m ≡ false → Reading s sub r
+-- ---- the call, from too few words, and from what process says of the state and the submission that were read
 
 differ : {A : Type 0} {x : Bool} → x ≡ true → x ≡ false → A
 differ p q = let z : ◌≡◌ {A = ℕ} 0 1 = cc in absurd (omega arith)
 
-module _ (s : List ℕ) (m : ℕ) (sub : List ℕ) {r : Asked} where
-  pub asks-few : length s < 25 → Refusing false r → Asks s m sub r
-  asks-few h x = record { short_state = λ _. x; short = λ f _. absurd (omega arith); read = λ f _. absurd (omega arith) }
-
-  module _ {t : Bool} (h : 25 ≤ length s) (e : t ≡ lacking (length sub) 11 m) where
-    pub asks-short : {o : Bool} → t ≡ true → o ≡ (pass_of s).«open» → Refusing o r → Asks s m sub r
-    asks-short q p x = record { short_state = λ f. absurd (omega arith); short = λ _ _. rw (← p) x; read = λ _ f. differ (sym e ∙ q) f }
-
-    pub asks-whole : t ≡ false → Reading s sub r → Asks s m sub r
-    asks-whole q x = record { short_state = λ f. absurd (omega arith); short = λ _ f. differ f (sym e ∙ q); read = λ _ _. x }
-
--- what is whole has the words of a state
-pub asks-long : {s : List ℕ} {m : ℕ} {sub : List ℕ} {r : Asked} → Asks s m sub r → r.whole ≡ true → 25 ≤ length s
-asks-long {s} x w = go (dec_lt (length s) 25)
-  where
-    go : Dec (length s < 25) → 25 ≤ length s
-    go (yes p) = differ w (x.short_state p).whole
-    go (no p) = omega (arith, p)
-
--- of a whole one the state is stored, of no other is a word; each is told
-pub record Tells (s₀ s r₀ r' : List ℕ) (a : Asked) (r : Processed) (code : ℕ) : Type 0 where
-  pub told : Says r₀ r' (processed_of r.outcome) code
-  pub words : a.whole ≡ true → s ≡ left_words s₀ r.mempool.counts r.mempool.cached r.mempool.sums
-  pub same : a.whole ≡ false → s ≡ s₀
-
-module _ (s₀ s r₀ r' : List ℕ) {a : Asked} {r : Processed} {code : ℕ} where
-  pub tells-whole : a.whole ≡ true → s ≡ left_words s₀ r.mempool.counts r.mempool.cached r.mempool.sums → Says r₀ r' (processed_of r.outcome) code → Tells s₀ s r₀ r' a r code
-  tells-whole t q c = record { told = c; words = λ _. q; same = λ f. differ t f }
-
-  pub tells_none : a.whole ≡ false → s ≡ s₀ → Says r₀ r' (processed_of r.outcome) code → Tells s₀ s r₀ r' a r code
-  tells_none t q c = record { told = c; words = λ f. differ f t; same = λ _. q }
-
--- ---- the call, from what was read, what process says of it, and what was stored
-
--- no table has room for as many as cap
-pub few-slots : (e : List ℕ) → length e < 2 ^ 64 → entries_room e < cap
-unfolding entries_room
-few-slots e h = omega arith
-
-too_many : (e b k : List ℕ) (n : ℕ) (st : Mempool) → entries_room e < cap → st.counts.pooled ≡ cap → all_fit e b k n st ≡ false
-unfolding all_fit cache_fits
-too_many e b k n st h q = rw (lt-leb st.counts.pooled (entries_room e) (omega (arith, q)))
-
-module _ (w₀ w : Lent) (s₀ s r₀ r' sub ins outs : List ℕ) {code : ℕ} (a : Asked) (r : Processed) (room : entries_room w₀.entries < cap) (x : Asks s₀ (length r₀) sub a)
-    (p : Promised w₀ w a.mempool a.sub ins outs r)
-    (o : of_submission (processed_of r.outcome) ≡ true)
-    (u : Unfit w₀ a.mempool r.outcome)
-    (v : Spares (processed_of r.outcome) (held w₀.entries w₀.boxes w₀.cache w₀.peers w₀.answer a.mempool) (held w.entries w.boxes w.cache w.peers w.answer r.mempool))
-    (t : told_of (processed_of r.outcome) ≤ length w₀.answer / 4)
-    (z : Tells s₀ s r₀ r' a r code) where
-  refuses : {b : Bool} (j : ℕ) → j ≡ pick b 20 1 → Refusing b a → processed_of r.outcome ≡ refused j 0
-  refuses j e f = rw e (u (too_many _ _ _ _ _ room f.pooled) ∙ ap (λ (b : Bool). refused (pick b 20 1) 0) f.pass)
-
-  -- a refusal with 20 or 1 changed nothing
-  idle-by : {b : Bool} → Refusing b a → Nothing (pick b 20 1) w₀ w s₀ s r₀ r' code
+module _ (w : Lent) (s r₀ r sub ins outs : List ℕ) {code : ℕ} where
+  nothing : {m : ℕ} (n : ℕ) → n ≡ m → Says r₀ r (refused n 0) code → Nothing m w w s s r₀ r code
   unfolding code_of
-  idle-by {b} f = go b f
-    where
-      by : (j : ℕ) → processed_of r.outcome ≡ refused j 0 → held w.entries w.boxes w.cache w.peers w.answer r.mempool ≡ held w₀.entries w₀.boxes w₀.cache w₀.peers w₀.answer a.mempool → Nothing j w₀ w s₀ s r₀ r' code
-      by j e h =
-          record {
-            answered = z.told.answered ∙ ap code_of e;
-            result = z.told.result ∙ ap (λ (q : Outcome). filled r₀ (result_of q)) e;
-            lent = λ i. record { entries = (h i).entries; boxes = (h i).boxes; cache = (h i).cache; peers = (h i).peers; answer = (h i).answer };
-            state = z.same f.whole;
-          }
+  nothing n d c = record { answered = c.answered ∙ d; result = c.result ∙ ap (λ (k : ℕ). filled r₀ (result_of (refused k 0))) d; lent = refl; state = refl }
 
-      go : (c : Bool) → Refusing c a → Nothing (pick c 20 1) w₀ w s₀ s r₀ r' code
-      go true g = let e = refuses 20 refl g in by 20 e (spared-all refl refl refl refl (v.refusal 20 0 e))
-      go false g = let e = refuses 1 refl g in by 1 e (spared-all refl refl refl refl (v.refusal 1 0 e))
+  pub submit-few : length s < 25 → Says r₀ r (refused 1 0) code → Submitted w w s s r₀ r sub ins outs code
+  submit-few h c = record { short_state = λ _. nothing 1 refl c; short = λ g _. absurd (omega arith); ran = λ g _. absurd (omega arith) }
 
-  pub submitted : Submitted w₀ w s₀ s r₀ r' sub ins outs code
-  submitted =
+  pub submit-short : {t : Bool} {n : ℕ} → 25 ≤ length s → t ≡ lacking (length sub) 11 (length r₀) → t ≡ true → n ≡ pick (pass_of s).«open» 20 1 → Says r₀ r (refused n 0) code → Submitted w w s s r₀ r sub ins outs code
+  submit-short {n = n} h q t d c = record { short_state = λ f. absurd (omega arith); short = λ _ _. nothing n d c; ran = λ _ f. differ (sym q ∙ t) f }
+
+module _ (w₀ w : Lent) (s₀ s r₀ r' sub ins outs : List ℕ) {t : Bool} {st : Mempool} {a : Submission} {code : ℕ} (r : Done ProcessingOutcome) (h : 25 ≤ length s₀) (g : t ≡ lacking (length sub) 11 (length r₀)) (g' : t ≡ false) (e : st ≡ state_of s₀)
+    (f : a ≡ submission_of sub) (p : Promised w₀ w st a ins outs r)
+    (o : of_submission (processed_of r.outcome) ≡ true)
+    (u : Unfit w₀ st r.outcome)
+    (v : Spares (processed_of r.outcome) (held w₀.entries w₀.boxes w₀.cache w₀.peers w₀.answer st) (held w.entries w.boxes w.cache w.peers w.answer r.mempool))
+    (few : told_of (processed_of r.outcome) ≤ length w₀.answer / 4)
+    (q : s ≡ left_words s₀ r.mempool.counts r.mempool.cached r.mempool.sums) where
+  pub submit-words : Says r₀ r' (processed_of r.outcome) code → Submitted w₀ w s₀ s r₀ r' sub ins outs code
+  submit-words c =
       record {
-        short_state = λ h. idle-by (x.short_state h);
-        short = λ h g. idle-by (x.short h g);
-        ran =
-            λ h g.
-            let y = x.read h g in
-            ran-words w₀ w s₀ s r₀ r' sub ins outs r h y.state y.submission p o u v t (z.words y.whole) z.told;
+        short_state = λ z. absurd (omega arith);
+        short = λ _ z. differ z (sym g ∙ g');
+        ran = λ _ _. ran-words w₀ w s₀ s r₀ r' sub ins outs r h e f p o u v few q c;
       }

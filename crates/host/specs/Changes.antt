@@ -19,8 +19,7 @@ use Rattle.store.specs.Spares.{Spares, lent}
 use Rattle.returns.specs.Promises.{ReturnPromise, InvalidatePromise}
 use Rattle.returns.specs.Numbers.{of_return, of_invalidation}
 use Rattle.returns.specs.declared.UnconfirmedTx.{UnconfirmedTx}
-use Rattle.returns.specs.declared.Returned.{Returned as ReturnedRecord}
-use Rattle.returns.specs.declared.Invalidated.{Invalidated as InvalidatedRecord}
+use Rattle.pool_types.specs.declared.Done.{Done}
 use Rattle.blocks.specs.Post.{BlockPromise}
 use Rattle.blocks.specs.Numbers.{of_block}
 use Rattle.blocks.specs.declared.Applied.{Applied}
@@ -94,7 +93,7 @@ module _ (e b s r₀ r tx ins outs : List ℕ) {code : ℕ} where
   return-short h q t d c = record { short_state = λ f. absurd (omega arith); short = λ _ _. idle _ d c; ran = λ _ f. differ (sym q ∙ t) f }
 
 -- from what return_to_pool says of the state and the transaction that were read
-module _ (e₀ e b₀ b s₀ s r₀ r' tx ins outs : List ℕ) {t : Bool} {st : Mempool} {u : UnconfirmedTx} (r : ReturnedRecord) (h : 25 ≤ length s₀) (g : t ≡ lacking (length tx) 13 (length r₀)) (g' : t ≡ false) (f : st ≡ state_of s₀) (d : u ≡ tx_of tx)
+module _ (e₀ e b₀ b s₀ s r₀ r' tx ins outs : List ℕ) {t : Bool} {st : Mempool} {u : UnconfirmedTx} (r : Done (Result Unit Refusal)) (h : 25 ≤ length s₀) (g : t ≡ lacking (length tx) 13 (length r₀)) (g' : t ≡ false) (f : st ≡ state_of s₀) (d : u ≡ tx_of tx)
     (p : ReturnPromise e₀ b₀ st u ins outs e b r.mempool (done_of r.outcome))
     (v : ReturnSpares e₀ e b₀ b st r.mempool r.outcome)
     (x : fits_test e₀ b₀ st.counts ≡ false → done_of r.outcome ≡ refused (pick st.pass.«open» 20 1) 0)
@@ -144,7 +143,7 @@ module _ (e b k s r₀ r : List ℕ) (time id : ℕ) {code : ℕ} where
   pub invalidate-short : {n : ℕ} → 25 ≤ length s → length r₀ < 16 → n ≡ pick (pass_of s).«open» 20 1 → Says r₀ r (refused n 0) code → InvalidateCall e e b b k k s s r₀ r time id code
   invalidate-short h g d c = record { short_state = λ f. absurd (omega arith); short = λ _ _. idle _ d c; ran = λ _ f. absurd (omega arith) }
 
-module _ (e₀ e b₀ b k₀ k s₀ s r₀ r' : List ℕ) (time id : ℕ) {st : Mempool} (r : InvalidatedRecord) (h : 25 ≤ length s₀) (g : 16 ≤ length r₀) (f : st ≡ state_of s₀)
+module _ (e₀ e b₀ b k₀ k s₀ s r₀ r' : List ℕ) (time id : ℕ) {st : Mempool} (r : Done (Result Unit Refusal)) (h : 25 ≤ length s₀) (g : 16 ≤ length r₀) (f : st ≡ state_of s₀)
     (p : InvalidatePromise e₀ b₀ k₀ st time id e b k r.mempool (done_of r.outcome))
     (v : InvalidateSpares e₀ e b₀ b k₀ k st r.mempool r.outcome)
     (x : cache_fits e₀ b₀ k₀ st ≡ false → done_of r.outcome ≡ refused (pick st.pass.«open» 20 1) 0)

@@ -22,9 +22,7 @@ use Rattle.cleanup.specs.Passes.{pass_of as pass_now}
 use Rattle.cleanup.specs.Post.{PassOnly, repassed, none_out, Told}
 use Rattle.cleanup.specs.Promises.{OpenPromise, NextPromise, AnswerPromise, RebroadcastPromise}
 use Rattle.cleanup.specs.Numbers.{of_open, of_next, of_answer, of_rebroadcast}
-use Rattle.cleanup.specs.declared.Opened.{Opened as OpenedRecord}
-use Rattle.cleanup.specs.declared.Offered.{Offered as OfferedRecord}
-use Rattle.cleanup.specs.declared.Answered.{Answered as AnsweredRecord}
+use Rattle.pool_types.specs.declared.Done.{Done}
 use Rattle.host.specs.State.{pass_of, state_of}
 use Rattle.host.specs.Stored.{Stored, stored-held}
 use Rattle.host.specs.Codes.{code_of, result_of}
@@ -73,7 +71,7 @@ module _ (s r₀ r : List ℕ) (time limit preheader : ℕ) {code : ℕ} where
   open-short h g d c = record { short_state = λ f. absurd (omega arith); short = λ _ _. idle _ d c; ran = λ _ f. absurd (omega arith) }
 
 -- from what open says of the state that was read
-module _ (s₀ s r₀ r' : List ℕ) (time limit preheader : ℕ) {st : Mempool} (r : OpenedRecord) (h : 25 ≤ length s₀) (g : 16 ≤ length r₀) (f : st ≡ state_of s₀) (z : Stored s₀ s r.mempool)
+module _ (s₀ s r₀ r' : List ℕ) (time limit preheader : ℕ) {st : Mempool} (r : Done (Result Unit Refusal)) (h : 25 ≤ length s₀) (g : 16 ≤ length r₀) (f : st ≡ state_of s₀) (z : Stored s₀ s r.mempool)
     (p : OpenPromise st time limit preheader r.mempool (done_of r.outcome))
     (v : OpenSpares st r.mempool r.outcome)
     (x : (w : World) → PassOnly st r.mempool (done_of r.outcome) (opened w (pass_now st.pass) time limit preheader)) where
@@ -124,7 +122,7 @@ module _ (e s r₀ r : List ℕ) {code : ℕ} where
   pub next-short : {n : ℕ} → 25 ≤ length s → length r₀ < 16 → n ≡ pick (not (pass_of s).«open») 21 1 → Says r₀ r (refused n 0) code → NextCall e s s r₀ r code
   next-short h g d c = record { short_state = λ f. absurd (omega arith); short = λ _ _. idle _ d c; ran = λ _ f. absurd (omega arith) }
 
-module _ (e s₀ s r₀ r' : List ℕ) {st : Mempool} (r : OfferedRecord) (h : 25 ≤ length s₀) (g : 16 ≤ length r₀) (f : st ≡ state_of s₀) (z : Stored s₀ s r.mempool)
+module _ (e s₀ s r₀ r' : List ℕ) {st : Mempool} (r : Done (Result NextOutcome Refusal)) (h : 25 ≤ length s₀) (g : 16 ≤ length r₀) (f : st ≡ state_of s₀) (z : Stored s₀ s r.mempool)
     (p : NextPromise e st r.mempool (next_of r.outcome))
     (v : NextSpares e st r.mempool r.outcome)
     (x : leb st.counts.pooled (entries_room e) ≡ false → next_of r.outcome ≡ refused (pick (not st.pass.«open») 21 1) 0)
@@ -176,7 +174,7 @@ module _ (e b k s r₀ r flags : List ℕ) (v : Verdict) {code : ℕ} where
   pub answer-short : {n : ℕ} → 25 ≤ length s → length r₀ < 16 → n ≡ pick (none_out (pass_of s)) 21 1 → Says r₀ r (refused n 0) code → AnswerCall e e b b k k s s r₀ r flags v code
   answer-short h g d c = record { short_state = λ f. absurd (omega arith); short = λ _ _. idle _ d c; ran = λ _ f. absurd (omega arith) }
 
-module _ (e₀ e b₀ b k₀ k s₀ s r₀ r' flags : List ℕ) (v : Verdict) {st : Mempool} {u : Verdict} (r : AnsweredRecord) (h : 25 ≤ length s₀) (g : 16 ≤ length r₀) (f : st ≡ state_of s₀) (d : u ≡ v) (z : Stored s₀ s r.mempool)
+module _ (e₀ e b₀ b k₀ k s₀ s r₀ r' flags : List ℕ) (v : Verdict) {st : Mempool} {u : Verdict} (r : Done (Result AnswerOutcome Refusal)) (h : 25 ≤ length s₀) (g : 16 ≤ length r₀) (f : st ≡ state_of s₀) (d : u ≡ v) (z : Stored s₀ s r.mempool)
     (p : AnswerPromise e₀ b₀ k₀ st flags u e b k r.mempool (answered_of r.outcome))
     (w : AnswerSpares e₀ e b₀ b k₀ k st r.mempool r.outcome)
     (x : cache_fits e₀ b₀ k₀ st ≡ false → answered_of r.outcome ≡ refused (pick (none_out st.pass) 21 1) 0) where

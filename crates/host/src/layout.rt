@@ -232,13 +232,8 @@ pub fn store_state(s: &mut [u64], mempool: Mempool)
     requires { 25 ≤ length s.old }
     ensures { Stored s.old s.new mempool }
 {
-    let counts = mempool.counts;
-    store_counts(s, counts);
-    s[11] = mempool.cached as u64;
-    let sums = mempool.sums;
-    store_sums(s, sums);
-    let pass = mempool.pass;
-    store_pass(s, pass);
+    store_left(s, mempool);
+    store_pass(s, mempool.pass);
 }
 
 // ---- a start

@@ -115,7 +115,7 @@ use crate::codes::{lacks, plain, put, refuse};
 use crate::layout::{SETTINGS_WORDS, STATE_WORDS, begin, load_config, strategy_of};
 use crate::statistics::{STATS_WORDS, store_stats};
 use entries::fields::entries_room;
-use entries::table::find_entry;
+use entries::views::Entries;
 use mempool::start;
 use pool_types::Refusal;
 use stats::FeeStats;
@@ -149,7 +149,7 @@ pub extern "C" fn gunthyd_find_entry(
     if entries_room(entries) < pooled {
         return u64::MAX;
     }
-    let place = find_entry(entries, pooled, Id { a, b, c, d });
+    let place = Entries::new(entries, pooled).find(Id { a, b, c, d });
     match place {
         Some(i) => i as u64,
         None => u64::MAX,

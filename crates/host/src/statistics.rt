@@ -15,10 +15,9 @@ fn load_bins(s: &[u64], at: usize) -> [u64; BINS]
     requires { at + 60 ≤ length s.now }
     ensures { result ≡ take 60 (drop at s.now) }
 {
+    // the state that goes by value has them as an array
     let mut bins = [0; BINS];
-    for i in 0..BINS {
-        bins[i] = s[at + i];
-    }
+    bins.copy_from_slice(&s[at..at + BINS]);
     bins
 }
 

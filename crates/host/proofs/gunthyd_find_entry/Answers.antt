@@ -8,12 +8,12 @@ use Rattle.host.proofs.gunthyd_find_entry.Goals as goal
 pub returns-then-entries_room-pooled-clause-value_2 : goal.returns-then-entries_room-pooled-clause-value_2
 returns-then-entries_room-pooled-clause-value_2 c = λ _. rank-short _ _ _ (omega arith)
 
-pub find_entry-place-requires : goal.find_entry-place-requires
-find_entry-place-requires c = ok-room _ _ (omega arith)
+pub new-requires : goal.new-requires
+new-requires c = ok-room _ _ (omega arith)
 
 pub returns-in-Some-clause-value_2 : goal.returns-in-Some-clause-value_2
 returns-in-Some-clause-value_2 c = let q = c.in-Some.is in
-    λ k. ap place_number (sym q) ∙ rank-found _ _ _ (omega arith) _ (c.find_entry-place.ensures.value k)
+    λ k. ap place_number (sym q) ∙ rank-found _ _ _ (omega arith) _ ((rw (c.new.ensures.0, c.new.ensures.1) at c.find-place.ensures.value) k)
 
 pub returns-in-None-clause-value_2 : goal.returns-in-None-clause-value_2
-returns-in-None-clause-value_2 c = λ k. ap place_number (sym c.in-None.is) ∙ rank-found _ _ _ (omega arith) _ (c.find_entry-place.ensures.value k)
+returns-in-None-clause-value_2 c = λ k. ap place_number (sym c.in-None.is) ∙ rank-found _ _ _ (omega arith) _ ((rw (c.new.ensures.0, c.new.ensures.1) at c.find-place.ensures.value) k)

@@ -1,7 +1,9 @@
--- `layout::store_state` meets its contract: the words 9 to 23, by three calls and a store (`stored-parts`). Assumes nothing.
-use native.Mathlib.Omega.{arith}
+-- `layout::store_state` meets its contract: the words 9 to 23, what `store_left` leaves and the pass (`stored-parts`). Assumes nothing.
+use Rattle.std.proofs.Common.{refl}
+use Rattle.host.specs.State.{left_words}
 use Rattle.host.specs.Stored.{stored-parts}
 use Rattle.host.proofs.layout.store_state.Goals as goal
 
 pub returns : goal.returns
-returns c = stored-parts _ _ _ _ _ _ c.requires c.store_pass.ensures.preheader_value c.store_counts.ensures (omega arith) c.store_sums.ensures c.store_pass.ensures.s_after
+unfolding left_words
+returns c = stored-parts _ _ _ _ _ _ c.requires c.store_pass.ensures.preheader_value refl refl c.store_left.ensures c.store_pass.ensures.s_after
