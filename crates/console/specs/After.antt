@@ -11,8 +11,12 @@ use Rattle.stats.specs.declared.FeeStats.{FeeStats}
 use Rattle.cleanup.specs.Passes.{pass_of}
 use Rattle.console.specs.Console.{Line, same}
 use Rattle.pool_types.specs.Outcomes.{written_of}
-use Rattle.console.specs.declared.Kept.{Kept}
-use Rattle.console.specs.declared.Told.{Told}
+use Rattle.console.specs.Kept.{Kept}
+
+-- a line's effect: what is held after it, and the length of its answer
+pub record Told : Type 0 where
+  pub kept : Kept
+  pub len : ℕ
 
 -- the store is kept
 pub record Holds (e b k p a : List ℕ) (h : Kept) : Type 0 where

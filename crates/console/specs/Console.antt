@@ -44,7 +44,7 @@ use Rattle.console.specs.declared.calls.Query.{Query}
 use Rattle.console.specs.declared.calls.Query.TheVariants.{Listing as Lists, Len, Contains, Spending, Fee, Wait, Histogram, Rebroadcast, Charges, Written}
 use Rattle.forms.specs.Nums.{numeral, digit_byte}
 use Rattle.replies.specs.Replies.{numbered, named, listed, replaced_text, pooled_text, row_of, spender_text, Pair, pair_text, charges_text, bins_text}
-use Rattle.console.specs.declared.Kept.{Kept}
+use Rattle.console.specs.Kept.{Kept}
 use Rattle.console.specs.Calls.{words_of, lacks_pool}
 
 -- ---- texts

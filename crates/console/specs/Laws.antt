@@ -45,7 +45,8 @@ use Rattle.store.specs.Fits.{goes_on, un_not}
 use Rattle.store.specs.Fits.{Kept as Sound}
 use Rattle.peers.specs.Flat.{records, flats}
 use Rattle.process.specs.Post.{Post}
-use Rattle.process.specs.declared.Processed.{Processed}
+use Rattle.pool_types.specs.declared.Done.{Done}
+use Rattle.pool_types.specs.declared.ProcessingOutcome.{ProcessingOutcome}
 use Rattle.returns.specs.Post.{Meets}
 use Rattle.cleanup.specs.Passes.{pass_of, PassResult}
 use Rattle.cleanup.specs.Rebroadcast.{chosen, rebroadcast_refusal, rebroadcast}
@@ -66,9 +67,8 @@ use Rattle.console.specs.Console.{Line, w_ready, w_no_pool, w_ids, refused_text,
 use Rattle.pool_types.specs.Outcomes.{written_of}
 use Rattle.console.specs.Texts.{prints-as, list_count, list-text, list-refused}
 use Rattle.replies.specs.Replies.{listed}
-use Rattle.console.specs.After.{Holds, After, ToldOf}
-use Rattle.console.specs.declared.Kept.{Kept}
-use Rattle.console.specs.declared.Told.{Told}
+use Rattle.console.specs.After.{Holds, After, Told, ToldOf}
+use Rattle.console.specs.Kept.{Kept}
 
 -- ---- a submission's outcome says how many ids it wrote
 
@@ -188,7 +188,7 @@ module _ (a a' ks : List ℕ) (n : Outcome) (y : written_of n ≡ min (length a 
 
 -- ---- a submission's line
 
-module _ (e b k p a e' b' k' p' a' : List ℕ) (h : Kept) (r : Processed) (s : Reached) (d : Post h.mempool r e' b' k' (records p') a a' s) (y : written_of s.outcome ≡ min (length a / 4) (length s.written))
+module _ (e b k p a e' b' k' p' a' : List ℕ) (h : Kept) (r : Done ProcessingOutcome) (s : Reached) (d : Post h.mempool r e' b' k' (records p') a a' s) (y : written_of s.outcome ≡ min (length a / 4) (length s.written))
     (x : ℕ) (o₀ o : List ℕ) (t : Told) (w : ToldOf a' r.mempool h.stats (processed_of r.outcome) (tx_text (processed_of r.outcome) x) o₀ o t) where
   held-processed : ids_to 4 a' t.kept.written ≡ take (count_of 4 a) s.written
   held-processed = held a a' s.written (processed_of r.outcome) (ap written_of d.outcome ∙ y) d.wrote t w
@@ -206,9 +206,6 @@ module _ (e b k p a e' b' k' p' a' : List ℕ) (h : Kept) (r : Processed) (s : R
         stats = w.stats;
         written = held-processed;
       }
-
-pub cut-is : (r a : ℕ) (l : List ℕ) → r ≡ min a (length l) → r ≡ length (take r l)
-cut-is r a l q = omega (arith, length-take r l)
 
 -- the lists are cut where the form's numbers of words say, or where the words end
 pub after-cut : (e b k p a e' b' k' p' a' o₀ o : List ℕ) (h : Kept) (t : Told) (f s : List ℕ) (g : Change) (c : Words) (n m : ℕ) → c ≡ words_of g → n ≡ min c.one (length f) → m ≡ min c.two (length s)

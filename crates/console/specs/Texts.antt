@@ -1,10 +1,7 @@
 -- The text of an outcome, case by case, as the code finds it.
-use Rattle.std.specs.Prelude.{Some, None}
 use Rattle.pool_types.specs.Refusals.{refusal_number}
-use Rattle.std.specs.Prelude.{Bool, Err, Ok, Option, Result}
+use Rattle.std.specs.Prelude.{Bool, Err, Ok, Result}
 use Rattle.pool_types.specs.declared.Refusal.{Refusal}
-use Rattle.pool_types.specs.declared.PooledTx.{PooledTx}
-use Rattle.std.specs.Prelude.{Option}
 use Rattle.std.specs.Prelude.{ℕ, zero, suc, ◌+◌, ◌/◌, ◌≤◌, min, ◌≡◌, refl, Bool, true, false, ◌||◌, List, [], ◌∷◌, map, eqb, leb, ltb, take, replicate}
 use Rattle.std.proofs.Common.{sym, ◌∙◌, subst, add-one, arith, length-take, length-set, ltb-false}
 use Rattle.std.proofs.Math.Path.{ap}
@@ -13,78 +10,20 @@ use Rattle.std.proofs.lemmas.List.{length-map, length-replicate}
 use Rattle.words.specs.Lists.{pick, map-append}
 use Rattle.words.specs.Rows.{rec_at}
 use Rattle.words.specs.Tables.{Table, of_none, of-suc}
-use Rattle.words.specs.Ids.{id_of}
-use Rattle.words.specs.declared.ids.Id.{Id}
 use Rattle.pool_types.specs.declared.Mempool.{Mempool}
-use Rattle.pool_types.specs.declared.Source.{Source}
-use Rattle.pool_types.specs.declared.ProcessingOutcome.{ProcessingOutcome}
-use Rattle.pool_types.specs.declared.ProcessingOutcome.TheVariants.{Accepted, Replaced, DoubleSpendLoser, VerdictNeeded, Declined}
-use Rattle.pool_types.specs.Outcomes.{Outcome, refused, wrote, tested_of, looked_of, listed_of, processed_of}
+use Rattle.pool_types.specs.Outcomes.{Outcome, refused, wrote, listed_of}
 use Rattle.forms.specs.Nums.{Prints}
 use Rattle.entries.specs.Entries.{Entry}
 use Rattle.entries.specs.Layout.{entries_of, entries_room, entries}
 use Rattle.fees.specs.Fees.{Bin, no_bin, binned, Histogram, histogram, no_histogram, histogram_of}
 use Rattle.fees.specs.Bins.{bin_dec, bin_at, bins_of, bins, Drawn}
-use Rattle.stats.specs.Stats.{fresh}
-use Rattle.stats.specs.declared.FeeStats.{FeeStats}
-use Rattle.mempool.specs.Start.{empty}
 use Rattle.mempool.specs.Listing.{Row, brief, Listing, listing, rows_of, top_of, Topped}
-use Rattle.lines.specs.declared.read.PoolForm.{PoolForm}
-use Rattle.lines.specs.declared.read.TxForm.{TxForm}
-use Rattle.lines.specs.declared.read.ReturnForm.{ReturnForm}
-use Rattle.replies.specs.Replies.{named, replaced_text, pooled_text, row_of, spender_text, pair_dec, pair_at, pairs_of, pairs, bins_text}
-use Rattle.console.specs.Console.{w_yes, w_no, w_none, w_needed, w_accepted, refused_text, query_text, or_refused, listing_text, pair_of, histogram_text, tx_text, config_of, source_of, submission_of, unconfirmed_of, no_config, nothing}
+use Rattle.replies.specs.Replies.{pooled_text, pair_dec, pair_at, pairs_of, pairs, bins_text}
+use Rattle.console.specs.Console.{refused_text, or_refused, listing_text, pair_of, histogram_text}
 use Rattle.pool_types.specs.Outcomes.{written_of}
 
 pub prints-as : {t u o₀ o : List ℕ} {n : ℕ} → t ≡ u → Prints t 0 o₀ o n → Prints u 0 o₀ o n
 prints-as {t} {u} {o₀} {o} {n} e p = subst (λ (x : List ℕ). Prints x 0 o₀ o n) e p
-
-module _ {r : Result Bool Refusal} {o : Outcome} (q : tested_of r ≡ o) where
-  pub tested-yes : r ≡ Ok true → w_yes ≡ query_text o
-  unfolding tested_of query_text
-  tested-yes p = rw (← q, p)
-
-  pub tested-no : r ≡ Ok false → w_no ≡ query_text o
-  unfolding tested_of query_text
-  tested-no p = rw (← q, p)
-
-  pub tested-not : {f : Refusal} → r ≡ Err f → refused_text (refusal_number f) ≡ query_text o
-  unfolding tested_of query_text
-  tested-not p = rw (← q, p)
-
-module _ {r : Result (Option PooledTx) Refusal} {o : Outcome} (q : looked_of r ≡ o) where
-  pub looked-entry : {x : PooledTx} → r ≡ Ok (Some x) → spender_text (row_of (id_of x.id) x.weight x.base) ≡ query_text o
-  unfolding looked_of query_text
-  looked-entry p = rw (← q, p)
-
-  pub looked-none : r ≡ Ok None → w_none ≡ query_text o
-  unfolding looked_of query_text
-  looked-none p = rw (← q, p)
-
-  pub looked-not : {f : Refusal} → r ≡ Err f → refused_text (refusal_number f) ≡ query_text o
-  unfolding looked_of query_text
-  looked-not p = rw (← q, p)
-
-module _ (o : ProcessingOutcome) (x : ℕ) (ks : List ℕ) where
-  pub told-accepted : o ≡ Accepted → named w_accepted x ≡ tx_text (processed_of o) x ks
-  unfolding processed_of tx_text
-  told-accepted p = rw p
-
-  pub told-replaced : {n : ℕ} → o ≡ Replaced n → replaced_text x ks ≡ tx_text (processed_of o) x ks
-  unfolding processed_of tx_text
-  told-replaced p = rw p
-
-  pub told-loser : {n : ℕ} → o ≡ DoubleSpendLoser n → refused_text 29 ≡ tx_text (processed_of o) x ks
-  unfolding processed_of tx_text
-  told-loser p = rw p
-
-  pub told-needed : o ≡ VerdictNeeded → w_needed ≡ tx_text (processed_of o) x ks
-  unfolding processed_of tx_text
-  told-needed p = rw p
-
-  pub told-declined : {f : Refusal} → o ≡ Declined f → refused_text (refusal_number f) ≡ tx_text (processed_of o) x ks
-  unfolding processed_of tx_text
-  told-declined p = rw p
 
 -- ---- lists that go through the buffer of the queries
 
@@ -181,23 +120,3 @@ module _ {l m : List ℕ} {r : Result ℕ Refusal} (e : List ℕ) (st : Mempool)
   pub drawn-not : {f : Refusal} → r ≡ Err f → Drawn l m r (histogram_of e st (length l) time size longest) → refused_text (refusal_number f) ≡ histogram_text (histogram_of e st (length l) time size longest)
   unfolding histogram_text
   drawn-not q p = list-refused _ p.outcome q
-
--- ---- forms
-
-pub config-is : (p : PoolForm)
-    → record { capacity = p.capacity; min_fee = p.min_fee; fee_strategy = p.strategy; cleanup_interval = p.interval; rebroadcast_count = p.rebroadcast; invalidation_ttl = p.ttl; invalidation_capacity = p.cache; cost_per_block = p.block_limit; cost_per_peer_per_block = p.peer_limit } ≡ config_of p
-unfolding config_of
-config-is p = refl
-
-pub submission-is : (t : TxForm) (s : Source) → s ≡ source_of t.peer
-    → record { time = t.time; id = t.id; size = t.size; preheader = t.preheader; source = s; verdict = t.verdict } ≡ submission_of t
-unfolding submission_of
-submission-is t s p = rw p
-
-pub unconfirmed-is : (g : ReturnForm) (s : Source) → s ≡ source_of g.peer
-    → record { id = g.id; fee = g.fee; size = g.size; cost = g.cost; validation_cost = g.measured; created = g.created; last_checked = g.checked; source = s } ≡ unconfirmed_of g
-unfolding unconfirmed_of
-unconfirmed-is g s q = rw q
-
-pub nothing_is : (m : Mempool) (s : FeeStats) → m ≡ empty no_config → s ≡ fresh 0 → record { ready = false; mempool = m; stats = s; written = 0 } ≡ nothing
-nothing_is m s p q = rw (p, q)

@@ -7,6 +7,7 @@ ghost use Rattle.console.specs.Console.{w_no_pool, refused_text, unread_text};
 use pool_types::Refusal;
 use replies::pieces::text;
 
+#[tactic(auto, unfolding(crate::specs::Console::refused_text))]
 pub fn refused(out: &mut [u8], refusal: Refusal) -> usize
     requires { 32768 ≤ length out.old }
     ensures { Prints (refused_text (refusal_number refusal)) 0 out.old out.new result }
@@ -14,6 +15,7 @@ pub fn refused(out: &mut [u8], refusal: Refusal) -> usize
     replies::with_number(out, b"(refused ", refusal.into())
 }
 
+#[tactic(auto, unfolding(crate::specs::Console::unread_text))]
 pub fn unread(out: &mut [u8], number: u64) -> usize
     requires { 32768 ≤ length out.old }
     ensures { Prints (unread_text number) 0 out.old out.new result }

@@ -1,20 +1,19 @@
 // `block`: the transactions that a block confirmed.
-ghost use Rattle.std.specs.Prelude.{◌≡◌, ℕ, ◌/◌, ◌≤◌, List, length};
+ghost use Rattle.std.specs.Prelude.{◌≡◌, ◌≤◌, length};
 ghost use Rattle.pool_types.specs.Outcomes.{listed_of};
 ghost use Rattle.boxes.specs.Flat.{count_of, ids_to};
 ghost use Rattle.forms.specs.Nums.{Prints};
 ghost use Rattle.console.specs.declared.calls.Change.TheVariants.{Block};
-ghost use Rattle.console.specs.Console.{removed_text, altered};
+ghost use Rattle.console.specs.Console.{removed_text};
 ghost use Rattle.pool_types.specs.Outcomes.{written_of};
-ghost use Rattle.console.specs.After.{Holds, After, ToldOf};
+ghost use Rattle.console.specs.Desk.{HoldsWith, AfterIn, SameLengths, altered_in};
 
 use crate::answer::refused;
-use crate::{Kept, Told};
+use crate::desk::{Desk, Held};
 use blocks::apply_block_by_value;
 use lines::read::BlockForm;
-use pool_types::{Mempool, Refusal};
+use pool_types::Refusal;
 use replies::with_ids;
-use stats::FeeStats;
 
 // The ids that a block says it wrote.
 #[tactic(auto, unfolding(pool_types::specs::Outcomes::written_of, pool_types::specs::Outcomes::listed_of))]
@@ -24,74 +23,56 @@ fn removed_of(outcome: Result<usize, Refusal>) -> usize
     outcome.unwrap_or(0)
 }
 
-// The answer to a block that wrote `n` ids.
-fn tell_removed(out: &mut [u8], answer: &[u64], n: usize, outcome: Result<usize, Refusal>) -> usize
-    requires n_bound { (n ≤ count_of 4 answer.now) × (length answer.now ≤ 1024) }
+// The answer to a block that wrote so many ids.
+#[tactic(auto, unfolding(crate::specs::Console::or_refused, pool_types::specs::Outcomes::listed_of))]
+fn tell_removed(
+    out: &mut [u8],
+    desk: &Desk<'_>,
+    written: usize,
+    outcome: Result<usize, Refusal>,
+) -> usize
+    requires written_bound { written ≤ count_of 4 desk.now.answer.now }
     requires in_bounds { 32768 ≤ length out.old }
-    ensures { Prints (removed_text (listed_of outcome) (ids_to 4 answer.now n)) 0 out.old out.new result }
+    ensures { Prints (removed_text (listed_of outcome) (ids_to 4 desk.now.answer.now written)) 0 out.old out.new result }
 {
     match outcome {
-        Ok(_) => with_ids(out, b"(removed", answer, n),
+        Ok(_) => with_ids(out, b"(removed", desk.answer, written),
         Err(refusal) => refused(out, refusal),
     }
 }
 
-// What is held after a block, and its answer.
-fn told(
-    answer: &[u64],
-    mempool: Mempool,
-    stats: FeeStats,
-    outcome: Result<usize, Refusal>,
-    out: &mut [u8],
-) -> Told
-    requires { (length answer.now ≤ 1024) × (32768 ≤ length out.old) }
-    ensures { ToldOf answer.now mempool stats (listed_of outcome) (removed_text (listed_of outcome)) out.old out.new result }
-{
-    let written = removed_of(outcome).min(answer.len() / 4);
-    let len = tell_removed(out, answer, written, outcome);
-    Told {
-        kept: Kept {
-            ready: true,
-            mempool,
-            stats,
-            written,
-        },
-        len,
-    }
-}
-
-// Peers are whatever is held: their count alone frees them.
-pub fn on_block(
-    entries: &mut [u64],
-    boxes: &mut [u64],
-    cache: &mut [u64],
-    answer: &mut [u64],
+// Peers stay: their count alone frees them.
+pub(crate) fn on_block(
+    desk: &mut Desk<'_>,
+    held: Held,
     transactions: &[u64],
     inputs: &[u64],
-    kept: Kept,
     g: BlockForm,
     out: &mut [u8],
-) -> Told
-    requires { (length answer.old ≤ 1024) × (32768 ≤ length out.old) }
-    ensures { (p : List ℕ) → Holds entries.old boxes.old cache.old p answer.old kept →
-        After entries.new boxes.new cache.new p answer.new out.old out.new result
-        (altered entries.old boxes.old cache.old p answer.old kept transactions.now inputs.now (Block g)) }
+) -> usize
+    requires { 32768 ≤ length out.old }
+    ensures after { HoldsWith desk.old held → AfterIn desk.new out.old out.new result (altered_in desk.old held transactions.now inputs.now (Block g)) }
+    ensures same_lengths { SameLengths desk.old desk.new }
+    ensures peers { desk.new.peers.now ≡ desk.old.peers.now }
 {
-    let mempool = kept.mempool;
-    let stats = kept.stats;
     let done = apply_block_by_value(
-        entries,
-        boxes,
-        cache,
-        answer,
-        stats,
-        mempool,
+        desk.entries,
+        desk.boxes,
+        desk.cache,
+        desk.answer,
+        held.stats,
+        held.mempool,
         g.time,
         transactions,
         inputs,
     );
-    let after = done.mempool;
     let recorded = done.stats;
     let outcome = done.outcome;
-    told(&answer[..], after, recorded, outcome, out)
+    let written = removed_of(outcome).min(desk.answer.len() / 4);
+    desk.held = Some(Held {
+        mempool: done.mempool,
+        stats: recorded,
+        written,
+    });
+    tell_removed(out, desk, written, outcome)
 }

@@ -1,6 +1,6 @@
 // The call that a form asks for.
 ghost use Rattle.std.specs.Prelude.{◌≡◌};
-ghost use Rattle.console.specs.Calls.{call_of, lacks_pool, words_of};
+ghost use Rattle.console.specs.Calls.{call_of, words_of};
 
 use lines::read::{BlockForm, Form, PoolForm, ReturnForm, TxForm};
 use pool_types::Verdict;
@@ -59,6 +59,7 @@ pub struct Words {
     pub two: usize,
 }
 
+#[tactic(auto, unfolding(crate::specs::Calls::call_of))]
 pub fn call_of(form: Form) -> Call
     ensures { result ≡ call_of form }
 {
@@ -86,18 +87,7 @@ pub fn call_of(form: Form) -> Call
     }
 }
 
-// Whether a call asks for a pool before there is one.
-pub fn lacks_pool(ready: bool, call: Call) -> bool
-    ensures { result ≡ lacks_pool ready call }
-{
-    match call {
-        Call::Start(_) => false,
-        Call::Alter(_) => !ready,
-        Call::Ask(_) => !ready,
-        Call::Unreadable => false,
-    }
-}
-
+#[tactic(auto, unfolding(crate::specs::Calls::words_of))]
 pub fn words_of(change: Change) -> Words
     ensures { result ≡ words_of change }
 {

@@ -6,12 +6,13 @@ ghost use Rattle.fees.specs.Fees.{recommended, expected_wait, histogram_of};
 ghost use Rattle.console.specs.Console.{w_fee, w_wait, number_text, histogram_text};
 
 use crate::answer::refused;
+use crate::desk::{Desk, Held};
 use fees::{expected_wait_ms_at, pool_histogram_at, recommended_fee};
-use pool_types::{Mempool, Refusal};
+use pool_types::Refusal;
 use replies::with_number;
-use stats::FeeStats;
 
 // `(fee N)` and the like.
+#[tactic(auto, unfolding(crate::specs::Console::number_text, pool_types::specs::Outcomes::number_of))]
 fn tell_number(out: &mut [u8], head: &[u8], outcome: Result<u64, Refusal>) -> usize
     requires { (length head.now ≤ 16) × (32768 ≤ length out.old) }
     ensures { Prints (number_text head.now (number_of outcome)) 0 out.old out.new result }
@@ -22,33 +23,32 @@ fn tell_number(out: &mut [u8], head: &[u8], outcome: Result<u64, Refusal>) -> us
     }
 }
 
-pub fn on_fee(stats: FeeStats, mempool: Mempool, minutes: u32, size: u32, out: &mut [u8]) -> usize
+pub(crate) fn on_fee(held: Held, minutes: u32, size: u32, out: &mut [u8]) -> usize
     requires { 32768 ≤ length out.old }
-    ensures { Prints (number_text w_fee (recommended stats mempool minutes size)) 0 out.old out.new result }
+    ensures { Prints (number_text w_fee (recommended held.stats held.mempool minutes size)) 0 out.old out.new result }
 {
-    let fee = recommended_fee(stats, mempool, minutes, size);
+    let fee = recommended_fee(held.stats, held.mempool, minutes, size);
     tell_number(out, b"(fee ", fee)
 }
 
-pub fn on_wait(
-    entries: &[u64],
-    stats: FeeStats,
-    mempool: Mempool,
+pub(crate) fn on_wait(
+    desk: &Desk<'_>,
+    held: Held,
     time: u64,
     fee: u64,
     size: u32,
     out: &mut [u8],
 ) -> usize
     requires { 32768 ≤ length out.old }
-    ensures { Prints (number_text w_wait (expected_wait entries.now stats mempool time fee size)) 0 out.old out.new result }
+    ensures { Prints (number_text w_wait (expected_wait desk.now.entries.now held.stats held.mempool time fee size)) 0 out.old out.new result }
 {
-    let wait = expected_wait_ms_at(entries, stats, mempool, time, fee, size);
+    let wait = expected_wait_ms_at(desk.entries, held.stats, held.mempool, time, fee, size);
     tell_number(out, b"(wait ", wait)
 }
 
-pub fn on_histogram(
-    entries: &[u64],
-    mempool: Mempool,
+pub(crate) fn on_histogram(
+    desk: &Desk<'_>,
+    held: Held,
     listing: &mut [u64],
     time: u64,
     bins: u32,
@@ -56,9 +56,9 @@ pub fn on_histogram(
     out: &mut [u8],
 ) -> usize
     requires { (length listing.old ≤ 1024) × (32768 ≤ length out.old) }
-    ensures { Prints (histogram_text (histogram_of entries.now mempool (length listing.old) time bins longest)) 0 out.old out.new result }
+    ensures { Prints (histogram_text (histogram_of desk.now.entries.now held.mempool (length listing.old) time bins longest)) 0 out.old out.new result }
 {
-    let drawn = pool_histogram_at(entries, mempool, listing, time, bins, longest);
+    let drawn = pool_histogram_at(desk.entries, held.mempool, listing, time, bins, longest);
     match drawn {
         Ok(n) => replies::bins(out, &listing[..], n),
         Err(refusal) => refused(out, refusal),

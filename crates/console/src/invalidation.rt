@@ -1,20 +1,21 @@
 // `invalidate`: a transaction found invalid.
-ghost use Rattle.std.specs.Prelude.{ℕ, ◌≤◌, List, length};
+ghost use Rattle.std.specs.Prelude.{◌≡◌, ℕ, ◌≤◌, List, length};
 ghost use Rattle.words.specs.Ids.{id_of};
 ghost use Rattle.pool_types.specs.Outcomes.{done_of};
 ghost use Rattle.forms.specs.Nums.{Prints};
 ghost use Rattle.replies.specs.Replies.{named};
 ghost use Rattle.console.specs.declared.calls.Change.TheVariants.{Invalidate};
-ghost use Rattle.console.specs.Console.{w_invalidated, or_refused, altered};
-ghost use Rattle.console.specs.After.{Holds, After};
+ghost use Rattle.console.specs.Console.{w_invalidated, or_refused};
+ghost use Rattle.console.specs.Desk.{HoldsWith, AfterIn, SameLengths, altered_in};
 
 use crate::answer::refused;
-use crate::{Kept, Told};
+use crate::desk::{Desk, Held};
 use pool_types::Refusal;
 use replies::with_id;
 use returns::invalidate;
 use words::ids::Id;
 
+#[tactic(auto, unfolding(crate::specs::Console::or_refused, pool_types::specs::Outcomes::done_of))]
 fn tell_invalidated(out: &mut [u8], id: Id, outcome: Result<(), Refusal>) -> usize
     requires { 32768 ≤ length out.old }
     ensures { Prints (or_refused (named w_invalidated (id_of id)) (done_of outcome)) 0 out.old out.new result }
@@ -25,34 +26,24 @@ fn tell_invalidated(out: &mut [u8], id: Id, outcome: Result<(), Refusal>) -> usi
     }
 }
 
-// It has no lists and writes no ids. Peers and answer buffer are whatever is held.
-pub fn on_invalidate(
-    entries: &mut [u64],
-    boxes: &mut [u64],
-    cache: &mut [u64],
-    kept: Kept,
+// It has no lists and writes no ids.
+pub(crate) fn on_invalidate(
+    desk: &mut Desk<'_>,
+    held: Held,
     time: u64,
     id: Id,
     out: &mut [u8],
-) -> Told
+) -> usize
     requires { 32768 ≤ length out.old }
-    ensures { (p a f s : List ℕ) → Holds entries.old boxes.old cache.old p a kept →
-        After entries.new boxes.new cache.new p a out.old out.new result
-        (altered entries.old boxes.old cache.old p a kept f s (Invalidate time id)) }
+    ensures after { (f s : List ℕ) → HoldsWith desk.old held → AfterIn desk.new out.old out.new result (altered_in desk.old held f s (Invalidate time id)) }
+    ensures same_lengths { SameLengths desk.old desk.new }
+    ensures others { (desk.new.peers.now ≡ desk.old.peers.now) × (desk.new.answer.now ≡ desk.old.answer.now) }
 {
-    let mempool = kept.mempool;
-    let stats = kept.stats;
-    let done = invalidate(entries, boxes, cache, mempool, time, id);
-    let after = done.mempool;
-    let outcome = done.outcome;
-    let len = tell_invalidated(out, id, outcome);
-    Told {
-        kept: Kept {
-            ready: true,
-            mempool: after,
-            stats,
-            written: 0,
-        },
-        len,
-    }
+    let done = invalidate(desk.entries, desk.boxes, desk.cache, held.mempool, time, id);
+    desk.held = Some(Held {
+        mempool: done.mempool,
+        stats: held.stats,
+        written: 0,
+    });
+    tell_invalidated(out, id, done.outcome)
 }

@@ -5,6 +5,7 @@ pub mod answer;
 pub mod block;
 pub mod calls;
 pub mod change;
+pub mod desk;
 pub mod estimates;
 pub mod invalidation;
 pub mod pass;
@@ -14,72 +15,42 @@ pub mod start;
 pub mod submit;
 
 ghost use Rattle.std.specs.Prelude.{◌≤◌, length};
-ghost use Rattle.console.specs.Console.{line_of};
-ghost use Rattle.console.specs.After.{Holds, After};
+ghost use Rattle.console.specs.Desk.{HoldsIn, AfterIn, SameLengths, line_in};
 
 use crate::answer::{no_pool, unread};
-use crate::calls::{Call, lacks_pool};
+use crate::calls::Call;
 use crate::change::alter;
+use crate::desk::Desk;
 use crate::query::ask;
 use crate::start::on_pool;
-use pool_types::Mempool;
-use stats::FeeStats;
 
-// What is held between lines: the pool's state once there is one, its statistics, and how many ids the last changing call wrote into the answer
-// buffer.
-#[derive(Clone, Copy)]
-pub struct Kept {
-    pub ready: bool,
-    pub mempool: Mempool,
-    pub stats: FeeStats,
-    pub written: usize,
-}
-
-// A line's effect: what is held after it, and the length of its answer.
-#[derive(Clone, Copy)]
-pub struct Told {
-    pub kept: Kept,
-    pub len: usize,
-}
-
-// Makes the call that line `number` asked for. Its answer stands at the start of `out`. The words of its lists stand at the front of `one` and of
-// `two`; lists that a query answers with go through `listing`, so that the ids in `answer` stay until the next changing call.
+// Makes the call that line `number` asked for, and answers how long its answer is, which stands at the start of `out`. The words of its lists stand at
+// the front of `one` and of `two`; lists that a query answers with go through `listing`, so that the ids in `desk.answer` stay until the next changing
+// call.
 pub fn tell(
-    entries: &mut [u64],
-    boxes: &mut [u64],
-    cache: &mut [u64],
-    peers: &mut [u64],
-    answer: &mut [u64],
+    desk: &mut Desk<'_>,
     listing: &mut [u64],
     one: &[u64],
     two: &[u64],
-    kept: Kept,
     number: u64,
     call: Call,
     out: &mut [u8],
-) -> Told
-    requires holds { Holds entries.old boxes.old cache.old peers.old answer.old kept }
-    requires answer_len_bound { (length answer.old ≤ 1024) × (length listing.old ≤ 1024) }
-    requires in_bounds { 32768 ≤ length out.old }
-    ensures { After entries.new boxes.new cache.new peers.new answer.new out.old out.new result
-        (line_of entries.old boxes.old cache.old peers.old answer.old kept number (length listing.old) one.now two.now call) }
+) -> usize
+    requires holds { HoldsIn desk.old }
+    requires in_bounds { (length listing.old ≤ 1024) × (32768 ≤ length out.old) }
+    ensures after { AfterIn desk.new out.old out.new result (line_in desk.old number (length listing.old) one.now two.now call) }
+    ensures same_lengths { SameLengths desk.old desk.new }
 {
-    if lacks_pool(kept.ready, call) {
-        let len = no_pool(out);
-        return Told { kept, len };
-    }
     match call {
-        Call::Start(p) => on_pool(entries, boxes, cache, peers, answer, kept, p, out),
-        Call::Alter(g) => alter(entries, boxes, cache, peers, answer, one, two, kept, g, out),
-        Call::Ask(q) => {
-            let len = ask(
-                entries, boxes, cache, peers, answer, listing, one, kept, q, out,
-            );
-            Told { kept, len }
-        }
-        Call::Unreadable => {
-            let len = unread(out, number);
-            Told { kept, len }
-        }
+        Call::Start(p) => on_pool(desk, p, out),
+        Call::Alter(g) => match desk.held {
+            Some(held) => alter(desk, held, one, two, g, out),
+            None => no_pool(out),
+        },
+        Call::Ask(q) => match desk.held {
+            Some(held) => ask(desk, held, listing, one, q, out),
+            None => no_pool(out),
+        },
+        Call::Unreadable => unread(out, number),
     }
 }

@@ -1,18 +1,19 @@
 // `open`, `next` and `answer`: a pass over the pool.
-ghost use Rattle.std.specs.Prelude.{ℕ, ◌≤◌, List, length};
+ghost use Rattle.std.specs.Prelude.{◌≡◌, ℕ, ◌≤◌, List, length};
 ghost use Rattle.pool_types.specs.Outcomes.{done_of, next_of, answered_of};
 ghost use Rattle.forms.specs.Nums.{Prints};
 ghost use Rattle.console.specs.declared.calls.Change.TheVariants.{Open, Next, Answer};
-ghost use Rattle.console.specs.Console.{pass_text, altered};
-ghost use Rattle.console.specs.After.{Holds, After};
+ghost use Rattle.console.specs.Console.{pass_text};
+ghost use Rattle.console.specs.Desk.{HoldsWith, AfterIn, SameLengths, SameWords, altered_in};
 
 use crate::answer::refused;
-use crate::{Kept, Told};
+use crate::desk::{Desk, Held};
 use cleanup::{answer, next, open};
 use pool_types::{AnswerOutcome, NextOutcome, Refusal, Verdict};
 use replies::pieces::text;
 use replies::{with_id, with_number};
 
+#[tactic(auto, unfolding(crate::specs::Console::pass_text, pool_types::specs::Outcomes::done_of))]
 fn tell_opened(out: &mut [u8], outcome: Result<(), Refusal>) -> usize
     requires { 32768 ≤ length out.old }
     ensures { Prints (pass_text (done_of outcome)) 0 out.old out.new result }
@@ -23,6 +24,7 @@ fn tell_opened(out: &mut [u8], outcome: Result<(), Refusal>) -> usize
     }
 }
 
+#[tactic(auto, unfolding(crate::specs::Console::pass_text, pool_types::specs::Outcomes::next_of))]
 fn tell_offered(out: &mut [u8], outcome: Result<NextOutcome, Refusal>) -> usize
     requires { 32768 ≤ length out.old }
     ensures { Prints (pass_text (next_of outcome)) 0 out.old out.new result }
@@ -36,6 +38,7 @@ fn tell_offered(out: &mut [u8], outcome: Result<NextOutcome, Refusal>) -> usize
     }
 }
 
+#[tactic(auto, unfolding(crate::specs::Console::pass_text, pool_types::specs::Outcomes::answered_of))]
 fn tell_answered(out: &mut [u8], outcome: Result<AnswerOutcome, Refusal>) -> usize
     requires { 32768 ≤ length out.old }
     ensures { Prints (pass_text (answered_of outcome)) 0 out.old out.new result }
@@ -51,78 +54,69 @@ fn tell_answered(out: &mut [u8], outcome: Result<AnswerOutcome, Refusal>) -> usi
     }
 }
 
-// These three have no lists but the flags and write no ids. The words that they are not lent are whatever is held.
-pub fn on_open(kept: Kept, time: u64, limit: u64, preheader: u32, out: &mut [u8]) -> Told
+// These three have no lists but the flags and write no ids.
+pub(crate) fn on_open(
+    desk: &mut Desk<'_>,
+    held: Held,
+    time: u64,
+    limit: u64,
+    preheader: u32,
+    out: &mut [u8],
+) -> usize
     requires { 32768 ≤ length out.old }
-    ensures { (e b k p a f s : List ℕ) → Holds e b k p a kept →
-        After e b k p a out.old out.new result (altered e b k p a kept f s (Open time limit preheader)) }
+    ensures after { (f s : List ℕ) → HoldsWith desk.old held → AfterIn desk.new out.old out.new result (altered_in desk.old held f s (Open time limit preheader)) }
+    ensures same_words { SameWords desk.old desk.new }
 {
-    let mempool = kept.mempool;
-    let stats = kept.stats;
-    let opened = open(mempool, time, limit, preheader);
-    let after = opened.mempool;
-    let outcome = opened.outcome;
-    let len = tell_opened(out, outcome);
-    Told {
-        kept: Kept {
-            ready: true,
-            mempool: after,
-            stats,
-            written: 0,
-        },
-        len,
-    }
+    let opened = open(held.mempool, time, limit, preheader);
+    desk.held = Some(Held {
+        mempool: opened.mempool,
+        stats: held.stats,
+        written: 0,
+    });
+    tell_opened(out, opened.outcome)
 }
 
-pub fn on_next(entries: &[u64], kept: Kept, out: &mut [u8]) -> Told
+pub(crate) fn on_next(desk: &mut Desk<'_>, held: Held, out: &mut [u8]) -> usize
     requires { 32768 ≤ length out.old }
-    ensures { (b k p a f s : List ℕ) → Holds entries.now b k p a kept →
-        After entries.now b k p a out.old out.new result (altered entries.now b k p a kept f s Next) }
+    ensures after { (f s : List ℕ) → HoldsWith desk.old held → AfterIn desk.new out.old out.new result (altered_in desk.old held f s Next) }
+    ensures same_words { SameWords desk.old desk.new }
 {
-    let mempool = kept.mempool;
-    let stats = kept.stats;
-    let offered = next(entries, mempool);
+    // lent from here, since of a field that is lent to be read nothing is known afterwards
+    let entries = &mut *desk.entries;
+    let offered = next(entries, held.mempool);
     let after = offered.mempool;
-    let outcome = offered.outcome;
-    let len = tell_offered(out, outcome);
-    Told {
-        kept: Kept {
-            ready: true,
-            mempool: after,
-            stats,
-            written: 0,
-        },
-        len,
-    }
+    desk.held = Some(Held {
+        mempool: after,
+        stats: held.stats,
+        written: 0,
+    });
+    tell_offered(out, offered.outcome)
 }
 
-pub fn on_answer(
-    entries: &mut [u64],
-    boxes: &mut [u64],
-    cache: &mut [u64],
+pub(crate) fn on_answer(
+    desk: &mut Desk<'_>,
+    held: Held,
     flags: &[u64],
-    kept: Kept,
     verdict: Verdict,
     out: &mut [u8],
-) -> Told
+) -> usize
     requires { 32768 ≤ length out.old }
-    ensures { (n : ℕ) (p a s : List ℕ) → Holds entries.old boxes.old cache.old p a kept →
-        After entries.new boxes.new cache.new p a out.old out.new result
-        (altered entries.old boxes.old cache.old p a kept flags.now s (Answer n verdict)) }
+    ensures after { (n : ℕ) (s : List ℕ) → HoldsWith desk.old held → AfterIn desk.new out.old out.new result (altered_in desk.old held flags.now s (Answer n verdict)) }
+    ensures same_lengths { SameLengths desk.old desk.new }
+    ensures others { (desk.new.peers.now ≡ desk.old.peers.now) × (desk.new.answer.now ≡ desk.old.answer.now) }
 {
-    let mempool = kept.mempool;
-    let stats = kept.stats;
-    let answered = answer(entries, boxes, cache, mempool, flags, verdict);
-    let after = answered.mempool;
-    let outcome = answered.outcome;
-    let len = tell_answered(out, outcome);
-    Told {
-        kept: Kept {
-            ready: true,
-            mempool: after,
-            stats,
-            written: 0,
-        },
-        len,
-    }
+    let answered = answer(
+        desk.entries,
+        desk.boxes,
+        desk.cache,
+        held.mempool,
+        flags,
+        verdict,
+    );
+    desk.held = Some(Held {
+        mempool: answered.mempool,
+        stats: held.stats,
+        written: 0,
+    });
+    tell_answered(out, answered.outcome)
 }

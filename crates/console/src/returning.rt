@@ -1,22 +1,23 @@
 // `return`: a transaction that a block rolled back gives back.
-ghost use Rattle.std.specs.Prelude.{◌≡◌, ℕ, ◌≤◌, List, length};
+ghost use Rattle.std.specs.Prelude.{◌≡◌, ◌≤◌, length};
 ghost use Rattle.words.specs.Ids.{id_of};
 ghost use Rattle.pool_types.specs.Outcomes.{done_of};
 ghost use Rattle.forms.specs.Nums.{Prints};
 ghost use Rattle.replies.specs.Replies.{named};
 ghost use Rattle.console.specs.declared.calls.Change.TheVariants.{Return};
-ghost use Rattle.console.specs.Console.{w_returned, or_refused, unconfirmed_of, altered};
-ghost use Rattle.console.specs.After.{Holds, After};
+ghost use Rattle.console.specs.Console.{w_returned, or_refused, unconfirmed_of};
+ghost use Rattle.console.specs.Desk.{HoldsWith, AfterIn, SameLengths, altered_in};
 
 use crate::answer::refused;
+use crate::desk::{Desk, Held};
 use crate::submit::source_of;
-use crate::{Kept, Told};
 use lines::read::ReturnForm;
 use pool_types::Refusal;
 use replies::with_id;
 use returns::{UnconfirmedTx, return_to_pool};
 use words::ids::Id;
 
+#[tactic(auto, unfolding(crate::specs::Console::unconfirmed_of))]
 fn unconfirmed_of(g: ReturnForm) -> UnconfirmedTx
     ensures { result ≡ unconfirmed_of g }
 {
@@ -34,6 +35,7 @@ fn unconfirmed_of(g: ReturnForm) -> UnconfirmedTx
     }
 }
 
+#[tactic(auto, unfolding(crate::specs::Console::or_refused, pool_types::specs::Outcomes::done_of))]
 fn tell_returned(out: &mut [u8], id: Id, outcome: Result<(), Refusal>) -> usize
     requires { 32768 ≤ length out.old }
     ensures { Prints (or_refused (named w_returned (id_of id)) (done_of outcome)) 0 out.old out.new result }
@@ -44,36 +46,27 @@ fn tell_returned(out: &mut [u8], id: Id, outcome: Result<(), Refusal>) -> usize
     }
 }
 
-// It writes no ids. Cache, peers and answer buffer are whatever is held.
-pub fn on_return(
-    entries: &mut [u64],
-    boxes: &mut [u64],
+// It writes no ids.
+pub(crate) fn on_return(
+    desk: &mut Desk<'_>,
+    held: Held,
     inputs: &[u64],
     outputs: &[u64],
-    kept: Kept,
     g: ReturnForm,
     out: &mut [u8],
-) -> Told
+) -> usize
     requires { 32768 ≤ length out.old }
-    ensures { (k p a : List ℕ) → Holds entries.old boxes.old k p a kept →
-        After entries.new boxes.new k p a out.old out.new result
-        (altered entries.old boxes.old k p a kept inputs.now outputs.now (Return g)) }
+    ensures after { HoldsWith desk.old held → AfterIn desk.new out.old out.new result (altered_in desk.old held inputs.now outputs.now (Return g)) }
+    ensures same_lengths { SameLengths desk.old desk.new }
+    ensures others { (desk.new.cache.now ≡ desk.old.cache.now) × (desk.new.peers.now ≡ desk.old.peers.now) × (desk.new.answer.now ≡ desk.old.answer.now) }
 {
-    let mempool = kept.mempool;
-    let stats = kept.stats;
     let id = g.id;
     let tx = unconfirmed_of(g);
-    let done = return_to_pool(entries, boxes, mempool, tx, inputs, outputs);
-    let after = done.mempool;
-    let outcome = done.outcome;
-    let len = tell_returned(out, id, outcome);
-    Told {
-        kept: Kept {
-            ready: true,
-            mempool: after,
-            stats,
-            written: 0,
-        },
-        len,
-    }
+    let done = return_to_pool(desk.entries, desk.boxes, held.mempool, tx, inputs, outputs);
+    desk.held = Some(Held {
+        mempool: done.mempool,
+        stats: held.stats,
+        written: 0,
+    });
+    tell_returned(out, id, done.outcome)
 }

@@ -1,21 +1,18 @@
-// `pool`: a start. What is answered before there is a pool.
-ghost use Rattle.std.specs.Prelude.{◌≡◌, ◌/◌, ◌≤◌, length};
-ghost use Rattle.entries.specs.Layout.{entries_room};
-ghost use Rattle.boxes.specs.Layout.{boxes_room};
-ghost use Rattle.expiring_cache.specs.Layout.{cache_room};
-ghost use Rattle.mempool.specs.Start.{sizes, empty, started};
-ghost use Rattle.console.specs.Console.{config_of, no_config, nothing, started_line};
-ghost use Rattle.console.specs.After.{Holds, After};
+// `pool`: a start.
+ghost use Rattle.std.specs.Prelude.{◌≡◌, ◌≤◌, length};
+ghost use Rattle.mempool.specs.Start.{started};
+ghost use Rattle.console.specs.Console.{config_of};
+ghost use Rattle.console.specs.Desk.{HoldsIn, AfterIn, SameWords, kept_of, unwritten, sizes_in, started_in};
 
 use crate::answer::refused;
-use crate::{Kept, Told};
+use crate::desk::{Desk, Held};
 use lines::read::PoolForm;
 use mempool::start;
-use pool_types::{Counts, FeeStrategy, Mempool, MempoolConfig, Pass, Sums};
+use pool_types::{Mempool, MempoolConfig, Refusal};
 use replies::pieces::text;
 use stats::FeeStats;
-use words::ids::Id;
 
+#[tactic(auto, unfolding(crate::specs::Console::config_of))]
 fn config_of(p: PoolForm) -> MempoolConfig
     ensures { result ≡ config_of p }
 {
@@ -32,97 +29,48 @@ fn config_of(p: PoolForm) -> MempoolConfig
     }
 }
 
-// A refused start leaves the pool that was, but it is a changing call that wrote no id.
-pub fn on_pool(
-    entries: &[u64],
-    boxes: &[u64],
-    cache: &[u64],
-    peers: &[u64],
-    answer: &[u64],
-    kept: Kept,
-    p: PoolForm,
-    out: &mut [u8],
-) -> Told
-    requires holds { Holds entries.now boxes.now cache.now peers.now answer.now kept }
-    requires in_bounds { 32768 ≤ length out.old }
-    ensures { After entries.now boxes.now cache.now peers.now answer.now out.old out.new result
-        (started_line entries.now boxes.now cache.now peers.now answer.now kept (started (sizes (entries_room entries.now) (boxes_room boxes.now) (cache_room cache.now) (length peers.now / 2)) (config_of p))) }
+// A start over the words that lie there.
+fn started(desk: &Desk<'_>, config: MempoolConfig) -> Result<Mempool, Refusal>
+    ensures { result ≡ started (sizes_in desk.now) config }
 {
-    let started = start(entries, boxes, cache, peers.len() / 2, config_of(p));
-    match started {
-        Ok(mempool) => Told {
-            kept: Kept {
-                ready: true,
+    start(
+        desk.entries,
+        desk.boxes,
+        desk.cache,
+        desk.peers.len() / 2,
+        config,
+    )
+}
+
+// What was held, without the ids that were written.
+fn unwritten(held: Option<Held>) -> Option<Held>
+    ensures { kept_of result ≡ unwritten (kept_of held) }
+{
+    match held {
+        Some(held) => Some(Held { written: 0, ..held }),
+        None => None,
+    }
+}
+
+// A refused start leaves the pool that was, but it is a changing call that wrote no id.
+pub(crate) fn on_pool(desk: &mut Desk<'_>, p: PoolForm, out: &mut [u8]) -> usize
+    requires holds { HoldsIn desk.old }
+    requires in_bounds { 32768 ≤ length out.old }
+    ensures after { AfterIn desk.new out.old out.new result (started_in desk.old (started (sizes_in desk.old) (config_of p))) }
+    ensures same_words { SameWords desk.old desk.new }
+{
+    match started(desk, config_of(p)) {
+        Ok(mempool) => {
+            desk.held = Some(Held {
                 mempool,
                 stats: FeeStats::new(0),
                 written: 0,
-            },
-            len: text(out, 0, b"(ready)"),
-        },
-        Err(refusal) => Told {
-            kept: Kept { written: 0, ..kept },
-            len: refused(out, refusal),
-        },
-    }
-}
-
-// ---- before the first `(ready)`
-
-fn no_config() -> MempoolConfig
-    ensures { result ≡ no_config }
-{
-    MempoolConfig {
-        capacity: 0,
-        min_fee: 0,
-        fee_strategy: FeeStrategy::FeePerByte,
-        cleanup_interval: 0,
-        rebroadcast_count: 0,
-        invalidation_ttl: 0,
-        invalidation_capacity: 0,
-        cost_per_block: 0,
-        cost_per_peer_per_block: 0,
-    }
-}
-
-// A state that no line sees: no start made it.
-fn unseen() -> Mempool
-    ensures { result ≡ empty no_config }
-{
-    Mempool {
-        config: no_config(),
-        counts: Counts {
-            pooled: 0,
-            records: 0,
-        },
-        cached: 0,
-        sums: Sums {
-            interblock_cost: 0,
-            peers: 0,
-        },
-        pass: Pass {
-            open: false,
-            out: false,
-            candidate: Id {
-                a: 0,
-                b: 0,
-                c: 0,
-                d: 0,
-            },
-            time: 0,
-            limit: 0,
-            preheader: 0,
-            spent: 0,
-        },
-    }
-}
-
-pub fn fresh() -> Kept
-    ensures { result ≡ nothing }
-{
-    Kept {
-        ready: false,
-        mempool: unseen(),
-        stats: FeeStats::new(0),
-        written: 0,
+            });
+            text(out, 0, b"(ready)")
+        }
+        Err(refusal) => {
+            desk.held = unwritten(desk.held);
+            refused(out, refusal)
+        }
     }
 }

@@ -1,24 +1,24 @@
 // `tx`: a submission.
-ghost use Rattle.std.specs.Prelude.{◌≡◌, ◌/◌, ◌≤◌, length};
+ghost use Rattle.std.specs.Prelude.{◌≡◌, ◌≤◌, length};
 ghost use Rattle.words.specs.Ids.{id_of};
 ghost use Rattle.pool_types.specs.Outcomes.{processed_of};
 ghost use Rattle.boxes.specs.Flat.{count_of, ids_to};
 ghost use Rattle.forms.specs.Nums.{Prints};
 ghost use Rattle.console.specs.declared.calls.Change.TheVariants.{Submit};
-ghost use Rattle.console.specs.Console.{source_of, submission_of, tx_text, altered};
+ghost use Rattle.console.specs.Console.{source_of, submission_of, tx_text};
 ghost use Rattle.pool_types.specs.Outcomes.{written_of};
-ghost use Rattle.console.specs.After.{Holds, After, ToldOf};
+ghost use Rattle.console.specs.Desk.{HoldsWith, AfterIn, SameLengths, altered_in};
 
 use crate::answer::refused;
-use crate::{Kept, Told};
+use crate::desk::{Desk, Held};
 use lines::read::TxForm;
 use pool_types::{ProcessingOutcome, Refusal, Source, Submission};
-use process::{Processed, process_words};
+use process::process_words;
 use replies::pieces::text;
 use replies::{replaced, with_id};
-use stats::FeeStats;
 use words::ids::Id;
 
+#[tactic(auto, unfolding(crate::specs::Console::source_of))]
 pub fn source_of(peer: Option<u64>) -> Source
     ensures { result ≡ source_of peer }
 {
@@ -28,6 +28,7 @@ pub fn source_of(peer: Option<u64>) -> Source
     }
 }
 
+#[tactic(auto, unfolding(crate::specs::Console::submission_of))]
 fn submission_of(t: TxForm) -> Submission
     ensures { result ≡ submission_of t }
 {
@@ -45,6 +46,7 @@ fn submission_of(t: TxForm) -> Submission
 }
 
 // The ids that a submission says it wrote.
+#[tactic(auto, unfolding(pool_types::specs::Outcomes::written_of, pool_types::specs::Outcomes::processed_of))]
 fn written_of(outcome: ProcessingOutcome) -> usize
     ensures { result ≡ written_of (processed_of outcome) }
 {
@@ -57,70 +59,60 @@ fn written_of(outcome: ProcessingOutcome) -> usize
     }
 }
 
-// The answer to a submission that wrote `n` ids.
+// The answer to a submission that wrote so many ids.
+#[tactic(auto, unfolding(crate::specs::Console::tx_text, pool_types::specs::Outcomes::processed_of))]
 fn tell_processed(
     out: &mut [u8],
     id: Id,
-    answer: &[u64],
-    n: usize,
+    desk: &Desk<'_>,
+    written: usize,
     outcome: ProcessingOutcome,
 ) -> usize
-    requires n_bound { (n ≤ count_of 4 answer.now) × (length answer.now ≤ 1024) }
+    requires written_bound { written ≤ count_of 4 desk.now.answer.now }
     requires in_bounds { 32768 ≤ length out.old }
-    ensures { Prints (tx_text (processed_of outcome) (id_of id) (ids_to 4 answer.now n)) 0 out.old out.new result }
+    ensures { Prints (tx_text (processed_of outcome) (id_of id) (ids_to 4 desk.now.answer.now written)) 0 out.old out.new result }
 {
     match outcome {
         ProcessingOutcome::Accepted => with_id(out, b"(accepted ", id),
-        ProcessingOutcome::Replaced(_) => replaced(out, id, answer, n),
+        ProcessingOutcome::Replaced(_) => replaced(out, id, desk.answer, written),
         ProcessingOutcome::DoubleSpendLoser(_) => refused(out, Refusal::DoubleSpend),
         ProcessingOutcome::VerdictNeeded => text(out, 0, b"(verdict needed)"),
         ProcessingOutcome::Declined(refusal) => refused(out, refusal),
     }
 }
 
-// What is held after a submission, and its answer.
-fn told(answer: &[u64], stats: FeeStats, done: Processed, id: Id, out: &mut [u8]) -> Told
-    requires { (length answer.now ≤ 1024) × (32768 ≤ length out.old) }
-    ensures { ToldOf answer.now done.mempool stats (processed_of done.outcome) (tx_text (processed_of done.outcome) (id_of id)) out.old out.new result }
-{
-    let outcome = done.outcome;
-    let mempool = done.mempool;
-    let written = written_of(outcome).min(answer.len() / 4);
-    let len = tell_processed(out, id, answer, written, outcome);
-    Told {
-        kept: Kept {
-            ready: true,
-            mempool,
-            stats,
-            written,
-        },
-        len,
-    }
-}
-
-pub fn on_tx(
-    entries: &mut [u64],
-    boxes: &mut [u64],
-    cache: &mut [u64],
-    peers: &mut [u64],
-    answer: &mut [u64],
+pub(crate) fn on_tx(
+    desk: &mut Desk<'_>,
+    held: Held,
     inputs: &[u64],
     outputs: &[u64],
-    kept: Kept,
     t: TxForm,
     out: &mut [u8],
-) -> Told
-    requires holds { Holds entries.old boxes.old cache.old peers.old answer.old kept }
-    requires answer_len_bound { (length answer.old ≤ 1024) × (32768 ≤ length out.old) }
-    ensures { After entries.new boxes.new cache.new peers.new answer.new out.old out.new result
-        (altered entries.old boxes.old cache.old peers.old answer.old kept inputs.now outputs.now (Submit t)) }
+) -> usize
+    requires holds { HoldsWith desk.old held }
+    requires in_bounds { 32768 ≤ length out.old }
+    ensures after { AfterIn desk.new out.old out.new result (altered_in desk.old held inputs.now outputs.now (Submit t)) }
+    ensures same_lengths { SameLengths desk.old desk.new }
 {
-    let mempool = kept.mempool;
-    let stats = kept.stats;
     let id = t.id;
     let sub = submission_of(t);
     let done = process_words(
-        entries, boxes, cache, peers, answer, mempool, sub, inputs, outputs,
+        desk.entries,
+        desk.boxes,
+        desk.cache,
+        desk.peers,
+        desk.answer,
+        held.mempool,
+        sub,
+        inputs,
+        outputs,
     );
-    told(&answer[..], stats, done, id, out)
+    let outcome = done.outcome;
+    let written = written_of(outcome).min(desk.answer.len() / 4);
+    desk.held = Some(Held {
+        mempool: done.mempool,
+        stats: held.stats,
+        written,
+    });
+    tell_processed(out, id, desk, written, outcome)
 }

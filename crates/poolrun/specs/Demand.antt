@@ -1,7 +1,6 @@
 -- Demand 3 of what poolrun holds: for every input, after every line.
 use Rattle.std.specs.Prelude.{Err, Ok, Result}
 use Rattle.pool_types.specs.declared.Refusal.{Refusal}
-use Rattle.pool_types.specs.Refusals.{refusal_number}
 use Rattle.std.specs.Prelude.{ℕ, ◌/◌, ◌≤◌, ◌≡◌, Bool, not, List, [], ◌∷◌, length, take}
 use Rattle.std.proofs.Math.Path.{refl, sym, ap}
 use Rattle.std.proofs.Common.{subst, ◌∙◌, arith}
@@ -18,7 +17,7 @@ use Rattle.lines.specs.declared.read.PoolForm.{PoolForm}
 use Rattle.console.specs.Console.{Line, w_no_pool, asked, line_of, called, altered, same, started_line, processed_line, applied_line, done_line, pass_line, config_of}
 use Rattle.console.specs.Calls.{call_of, lacks_pool}
 use Rattle.console.specs.Calls.{words_of as list_words}
-use Rattle.console.specs.declared.Kept.{Kept}
+use Rattle.console.specs.Kept.{Kept}
 use Rattle.console.specs.declared.calls.Call.{Call}
 use Rattle.console.specs.declared.calls.Call.TheVariants as call
 use Rattle.console.specs.declared.calls.Change.{Change}

@@ -20,7 +20,7 @@ use Rattle.lines.specs.declared.read.PoolForm.{PoolForm}
 use Rattle.console.specs.Console.{config_of, submission_of, unconfirmed_of}
 use Rattle.console.specs.Calls.{call_of}
 use Rattle.console.specs.Calls.{words_of as list_words}
-use Rattle.console.specs.declared.Kept.{Kept}
+use Rattle.console.specs.Kept.{Kept}
 use Rattle.console.specs.declared.calls.Call.{Call}
 use Rattle.console.specs.declared.calls.Call.TheVariants as call
 use Rattle.console.specs.declared.calls.Query.{Query}

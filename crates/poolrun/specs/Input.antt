@@ -1,17 +1,16 @@
 -- What poolrun is to do with its input: the bytes are cut into lines, and each line is answered by what crate console's `line_of` says of the call that
 -- its bytes read to. Document 01: "`poolrun` reads one bracket form a line (at most 4,096 bytes ..) and prints one." docs/FORMS.md: a line "ends with
 -- a newline or with the end of the file".
-use Rattle.std.specs.Prelude.{ℕ, ◌+◌, ◌≡◌, refl, Bool, true, false, List, [], ◌∷◌, ◌++◌, ltb, length, take}
+use Rattle.std.specs.Prelude.{ℕ, ◌+◌, ◌≡◌, refl, Bool, true, false, List, [], ◌∷◌, ◌++◌, ltb, length}
 use Rattle.words.specs.Lists.{pick}
 use Rattle.words.specs.Sums.{capped}
 use Rattle.lines.specs.Forms.{ReadAt}
 use Rattle.lines.specs.declared.read.Form.{Form}
 use Rattle.console.specs.Console.{Line, line_of, nothing}
 use Rattle.console.specs.Calls.{call_of}
-use Rattle.console.specs.After.{After}
-use Rattle.console.specs.declared.Kept.{Kept}
-use Rattle.console.specs.declared.Told.{Told}
-use Rattle.poolrun.specs.declared.Progress.{Progress}
+use Rattle.console.specs.After.{After, Told}
+use Rattle.console.specs.Kept.{Kept}
+use Rattle.console.specs.declared.desk.Desk.{Desk}
 
 -- ---- what is held between two bytes
 
@@ -34,9 +33,8 @@ pub record State : Type 0 where
 abbrev pub words_of : List ℕ → List ℕ → List ℕ → List ℕ → List ℕ → Words
 words_of e b k p a = record { entries = e; boxes = b; cache = k; peers = p; answer = a }
 
--- as the program has it: of its line buffer the first `len` bytes are the line in progress
-abbrev pub state_of : List ℕ → List ℕ → List ℕ → List ℕ → List ℕ → List ℕ → Progress → State
-state_of l e b k p a g = record { line = take g.len l; number = g.number; over = g.over; words = words_of e b k p a; kept = g.kept }
+abbrev pub words_in : Desk → Words
+words_in d = words_of d.entries.now d.boxes.now d.cache.now d.peers.now d.answer.now
 
 -- before the first byte
 abbrev pub at_start : List ℕ → List ℕ → List ℕ → List ℕ → List ℕ → State

@@ -1,4 +1,5 @@
 pub mod Input
+pub mod Machine
 pub mod Poolrun
 pub mod History
 pub mod Demand

@@ -6,21 +6,14 @@ use Rattle.std.proofs.Math.ListN.{length, length-take}
 use Rattle.std.proofs.lemmas.List.{take-append-le}
 use Rattle.words.specs.Lists.{yes, no}
 use Rattle.words.specs.Sums.{cap, capped}
-use Rattle.lines.specs.Forms.{ReadAt}
-use Rattle.lines.specs.declared.read.Form.{Form}
-use Rattle.console.specs.Console.{Line, line_of, nothing}
-use Rattle.console.specs.Calls.{call_of}
-use Rattle.console.specs.declared.calls.Call.{Call}
-use Rattle.console.specs.Laws.{holds-nothing}
-use Rattle.console.specs.After.{Holds, After}
-use Rattle.console.specs.declared.Kept.{Kept}
-use Rattle.console.specs.declared.Told.{Told}
-use Rattle.poolrun.specs.declared.Progress.{Progress}
+use Rattle.console.specs.Console.{Line}
+use Rattle.console.specs.After.{Holds, Told}
+use Rattle.console.specs.Kept.{Kept}
 use Rattle.spelling.specs.File.{input_of}
 use Rattle.std.specs.Io.KnownBytes.{IsAtEnd}
 use Rattle.streams.specs.Laws.{written-none, written-then, taken-none, taken-then}
 use Rattle.streams.specs.Streams.{Stand, Written, Taken, Brought}
-use Rattle.poolrun.specs.Input.{Words, State, state_of, words_of, at_start, add_byte, added, Comes, Leaves, Answered, Step, adds, ends, Fed, none, more, ended, Finished, between, last, Turn, over, some, Served, unread, reads}
+use Rattle.poolrun.specs.Input.{Words, State, add_byte, added, Comes, Leaves, Answered, Step, adds, ends, Fed, none, more, ended, Finished, between, last, Turn, over, some, Served, unread, reads}
 
 -- ---- sizes
 
@@ -37,11 +30,6 @@ pub record Sized (l e b k p a i f s o : List ℕ) : Type 0 where
   pub second : length s ≡ 14336
   pub out : length o ≡ 32769
 
--- and the words fit what is held
-pub record Running (l e b k p a i f s o : List ℕ) (h : Kept) : Type 0 where
-  pub sized : Sized l e b k p a i f s o
-  pub holds : Holds e b k p a h
-
 -- of those, what one line's call needs; its text has the buffer but the last place
 pub record Room (a i f s o : List ℕ) : Type 0 where
   pub answer : length a ≤ 1024
@@ -51,12 +39,6 @@ pub record Room (a i f s o : List ℕ) : Type 0 where
   pub out : 32768 ≤ length o
 
 -- ---- contracts
-
-pub record Adds (l : List ℕ) (p : Progress) (b : ℕ) (l' : List ℕ) (r : Progress) : Type 0 where
-  pub line : take r.len l' ≡ add_byte (take p.len l) b
-  pub number : r.number ≡ p.number
-  pub over : r.over ≡ p.over
-  pub kept : r.kept ≡ p.kept
 
 -- the n-th line, of the bytes l, is read and its call made
 pub record Tells (l : List ℕ) (n : ℕ) (w : Words) (h : Kept) (w' : Words) (o₀ o : List ℕ) (t : Told) : Type 0 where
@@ -97,12 +79,6 @@ pub record Turns (bytes : List ℕ) (s s' : State) (o o' : Stand) : Type 0 where
   pub text : List ℕ
   pub is : Turn bytes s text s'
   pub written : Written o o' text
-
-pub record Closed (p r : Progress) : Type 0 where
-  pub len : r.len ≡ p.len
-  pub number : r.number ≡ p.number
-  pub over : r.over ≡ true
-  pub kept : r.kept ≡ p.kept
 
 -- reads go on while the input has not ended, or up to 2^64−1 of them; `left` are not made yet. i and i' are where the input stands
 pub record Serving (s s' : State) (left : ℕ) (i i' o o' : Stand) : Type 0 where
@@ -169,29 +145,17 @@ module _ (w : Words) (o₀ o : List ℕ) (t : Told) (m : Line) (x : Leaves w o�
       let z : t.len < length (o ++ rest) = omega (arith, text-fits, length-append o rest) in
       rw (n, q) (take-suc-set (o ++ rest) t.len 10 z ∙ ap (λ (l : List ℕ). l ++ (10 ∷ [])) (take-append-le t.len o rest text-fits ∙ text-stands))
 
--- a line's bytes were read to a form, and its call made
-pub tells_is : {l e b k p a e' b' k' p' a' o₀ o f f₀ s s₀ : List ℕ} {h : Kept} {n : ℕ} {form : Form} {call : Call} {t : Told} (i : List ℕ)
-    → length i ≡ 1024 → length f₀ ≡ 14336 → length s₀ ≡ 14336 → ReadAt l f₀ f s₀ s form → call ≡ call_of form → After e' b' k' p' a' o₀ o t (line_of e b k p a h n (length i) f s call)
-    → Tells l n (words_of e b k p a) h (words_of e' b' k' p' a') o₀ o t
-tells_is {l} {e} {b} {k} {p} {a} {e'} {b'} {k'} {p'} {a'} {o₀} {o} {f} {f₀} {s} {s₀} {h} {n} {form} {call} i z y w r q x =
-    record {
-      to = line_of e b k p a h n (length i) f s call;
-      comes = record { form = form; first = f; second = s; reads = record { one = f₀; two = s₀; one-room = y; two-room = w; read = r }; is = rw (z, q) };
-      leaves = x;
-    }
-
 -- the buffer but its last place is lent for the text
 pub room_of : {l e b k p a i f s o : List ℕ} → Sized l e b k p a i f s o → Room a i f s (take 32768 o)
 room_of {o = o} z = record { answer = omega (arith, z.answer); listing = z.listing; first = z.first; second = z.second; out = omega (arith, length-take 32768 o, z.out) }
 
-module _ (l : List ℕ) (m : ℕ) {e b k q a e' b' k' q' a' : List ℕ} {n : ℕ} {t : Told} (p : Progress) (out o : List ℕ) (size : length out ≡ 32769) (same : length o ≡ length (take 32768 out))
-    (x : Tells (take m l) n (words_of e b k q a) p.kept (words_of e' b' k' q' a') (take 32768 out) o t) where
+module _ (l : List ℕ) (m : ℕ) {w w' : Words} {n : ℕ} {h : Kept} {t : Told} (out o : List ℕ) (size : length out ≡ 32769) (same : length o ≡ length (take 32768 out)) (x : Tells (take m l) n w h w' (take 32768 out) o t) where
   pub newline-fits : t.len < length (o ++ drop 32768 out)
   newline-fits = omega (arith, text-fits _ _ _ _ _ x.leaves same, length-append o (drop 32768 out), length-drop 32768 out)
 
-  pub ends_is : {w w' : Stand} (out' : List ℕ) → m ≡ min p.len (length l) → n ≡ capped (p.number + 1) → out' ≡ set (o ++ drop 32768 out) t.len 10 → Written w w' (take (t.len + 1) out')
-      → Ends (state_of l e b k q a p) (state_of l e' b' k' q' a' (record { kept = t.kept; len = 0; number = n; over = p.over })) out' w w'
-  ends_is {w} {w'} out' qm qn qo v =
+  pub ends_is : {v v' : Stand} (len number : ℕ) (out' : List ℕ) → m ≡ min len (length l) → n ≡ capped (number + 1) → out' ≡ set (o ++ drop 32768 out) t.len 10 → Written v v' (take (t.len + 1) out')
+      → Ends (record { line = take len l; number = number; over = false; words = w; kept = h }) (record { line = []; number = n; over = false; words = w'; kept = t.kept }) out' v v'
+  ends_is {v} {v'} len number out' qm qn qo y =
       record {
         text = x.to.text;
         is =
@@ -200,14 +164,14 @@ module _ (l : List ℕ) (m : ℕ) {e b k q a e' b' k' q' a' : List ℕ} {n : ℕ
               number = qn;
               over = refl;
               to = x.to;
-              comes = subst (λ (bs : List ℕ). Comes bs n (words_of e b k q a) p.kept x.to) (cut_line p.len m l qm) x.comes;
+              comes = subst (λ (bs : List ℕ). Comes bs n w h x.to) (cut_line len m l qm) x.comes;
               says = refl;
               before = take 32768 out;
               out = o;
-              leaves = subst (λ (i : ℕ). Leaves (words_of e' b' k' q' a') (take 32768 out) o (record { kept = t.kept; len = i }) x.to) long x.leaves;
+              leaves = subst (λ (i : ℕ). Leaves w' (take 32768 out) o (record { kept = t.kept; len = i }) x.to) long x.leaves;
             };
         handed = handed out' qo;
-        written = subst (Written w w') (ap (λ (i : ℕ). take i out') all ∙ handed out' qo) v;
+        written = subst (Written v v') (ap (λ (i : ℕ). take i out') all ∙ handed out' qo) y;
       }
     where
       handed : (z : List ℕ) → z ≡ set (o ++ drop 32768 out) t.len 10 → take (length (x.to.text ++ (10 ∷ []))) z ≡ x.to.text ++ (10 ∷ [])
@@ -218,13 +182,6 @@ module _ (l : List ℕ) (m : ℕ) {e b k q a e' b' k' q' a' : List ℕ} {n : ℕ
 
       long : t.len ≡ length x.to.text
       long = omega (arith, x.leaves.prints.ends)
-
-pub out-same : (out o out' : List ℕ) → length out ≡ 32769 → length o ≡ length (take 32768 out) → length out' ≡ length (o ++ drop 32768 out) → length out' ≡ length out
-out-same out o out' z y x = omega (arith, length-append o (drop 32768 out), length-drop 32768 out, length-take 32768 out)
-
--- one newline behind the first n bytes makes them a line
-pub whole-line : (l : List ℕ) (n : ℕ) → n < length l → Whole (take (n + 1) (set l n 10))
-whole-line l n h = record { text = take n l; is = rw (add-one n) (take-suc-set l n 10 h) }
 
 -- ---- what is held fits after each step
 
@@ -251,13 +208,8 @@ turn_holds y (some f) = fed-holds y f
 
 -- ---- the next byte
 
-module _ (l l' e b k q a : List ℕ) (c : ℕ) (p r : Progress) (x : Adds l p c l' r) where
-  adds-is : state_of l' e b k q a r ≡ added c (state_of l e b k q a p)
-  unfolding added
-  adds-is = rw (x.line, x.number, x.over, x.kept)
-
-  pub steps-adds : {w : Stand} → (c ≡ 10 → ⊥) → (out : List ℕ) → Steps c (state_of l e b k q a p) (state_of l' e b k q a r) out w w
-  steps-adds h out = record { text = []; is = rw adds-is (adds h); handed = refl; written = written-none }
+pub steps-adds : {s s' : State} {w : Stand} (c : ℕ) → (c ≡ 10 → ⊥) → s' ≡ added c s → (out : List ℕ) → Steps c s s' out w w
+steps-adds {s} c h q out = record { text = []; is = rw q (adds h); handed = refl; written = written-none }
 
 pub steps-ends : {s s' : State} {out : List ℕ} {w w' : Stand} (c : ℕ) → c ≡ 10 → Ends s s' out w w' → Steps c s s' out w w'
 steps-ends c q x = record { text = x.text ++ (10 ∷ []); is = ends q x.is; handed = x.handed; written = x.written }
@@ -279,21 +231,13 @@ feeds-more l i h f x =
       written = written-then f.written (written-then x.written written-none);
     }
 
-pub feeds-all : {s s' : State} {o o' : Stand} (l : List ℕ) (i : ℕ) → length l ≤ i → Feeds (take i l) s s' o o' → Feeds l s s' o o'
-feeds-all {s} {s'} {o} {o'} l i h f = subst (λ (bs : List ℕ). Feeds bs s s' o o') (take_all i l h) f
-
 -- ---- the end of the input
 
-module _ (l e b k q a : List ℕ) (p r : Progress) (x : Closed p r) where
-  closed_is : state_of l e b k q a r ≡ ended (state_of l e b k q a p)
-  unfolding ended
-  closed_is = rw (x.len, x.number, x.over, x.kept)
+pub finishes-between : {s : State} {w : Stand} (out : List ℕ) → s.line ≡ [] → Finishes s (ended s) out w w
+finishes-between out h = record { text = []; is = between h; handed = refl; written = written-none }
 
-  pub finishes-between : {w : Stand} (out : List ℕ) → p.len ≡ 0 → Finishes (state_of l e b k q a p) (state_of l e b k q a r) out w w
-  finishes-between out h = record { text = []; is = rw closed_is (between (ap (λ (n : ℕ). take n l) h)); handed = refl; written = written-none }
-
-  pub finishes-last : {w w' : Stand} (s : State) (out : List ℕ) → (s.line ≡ [] → ⊥) → Ends s (state_of l e b k q a p) out w w' → Finishes s (state_of l e b k q a r) out w w'
-  finishes-last s out h y = record { text = y.text ++ (10 ∷ []); is = rw closed_is (last h y.is); handed = y.handed; written = y.written }
+pub finishes-last : {s s' : State} {w w' : Stand} (out : List ℕ) → (s.line ≡ [] → ⊥) → Ends s s' out w w' → Finishes s (ended s') out w w'
+finishes-last out h y = record { text = y.text ++ (10 ∷ []); is = last h y.is; handed = y.handed; written = y.written }
 
 pub not-begun : (l : List ℕ) (n : ℕ) → length l ≡ 4097 → (n ≡ 0 → ⊥) → take n l ≡ [] → ⊥
 not-begun l n size h q = let z : length (take n l) ≡ 0 = ap length q in omega (arith, length-take n l, h)
@@ -335,8 +279,8 @@ taken-start : {i : Stand} → Taken i i (input_of [])
 unfolding input_of
 taken-start = taken-none
 
-pub serving-none : {i o : Stand} (e b k p a : List ℕ) (h : Kept) → h ≡ nothing → Serving (at_start e b k p a) (record { line = []; number = 0; over = false; words = words_of e b k p a; kept = h }) cap i i o o
-serving-none e b k p a h q = rw q (record { brought = []; text = []; is = unread; count = omega arith; taken = taken-start; written = written-none })
+pub serving-none : {s : State} {i o : Stand} → Serving s s cap i i o o
+serving-none = record { brought = []; text = []; is = unread; count = omega arith; taken = taken-start; written = written-none }
 
 -- one read more
 module _ {s s' s'' : State} {i i' i'' o o' o'' : Stand} (bs : List ℕ) (n room size : ℕ) (same : size ≡ room) (y : Serving s s' n i i' o o') (go : s'.over ≡ false) (g : Brought size i' i'' bs) (x : Turns bs s' s'' o' o'') where
@@ -374,37 +318,3 @@ module _ {s s' s'' : State} {i i' i'' o o' o'' : Stand} (bs : List ℕ) (n room 
 
 pub serving-left : {s s' : State} {i i' o o' : Stand} (n m : ℕ) → n ≡ m → Serving s s' n i i' o o' → Serving s s' m i i' o o'
 serving-left {s} {s'} {i} {i'} {o} {o'} n m e y = subst (λ (k : ℕ). Serving s s' k i i' o o') e y
-
-pub serves-cut : {s s' : State} {i i' o o' : Stand} (n room : ℕ) → n ≡ 0 → s'.over ≡ false → Serving s s' n i i' o o' → Serves room s s' i i' o o'
-serves-cut n room h e y =
-    record {
-      brought = y.brought;
-      text = y.text;
-      is = y.is;
-      stops = λ z. omega (arith, y.count);
-      taken = y.taken;
-      ends = λ z. absurd (true≢false (sym z ∙ e));
-      written = y.written;
-    }
-
--- ---- the buffers are lent on
-
-pub lent-on : {l e b k p a i f s o l' e' b' k' p' a' i' f' s' o' : List ℕ} → Sized l e b k p a i f s o → length l' ≡ length l → length e' ≡ length e → length b' ≡ length b
-    → length k' ≡ length k → length p' ≡ length p → length a' ≡ length a → length i' ≡ length i → length f' ≡ length f → length s' ≡ length s → length o' ≡ length o
-    → Sized l' e' b' k' p' a' i' f' s' o'
-lent-on z q1 q2 q3 q4 q5 q6 q7 q8 q9 q10 =
-    record {
-      line = q1 ∙ z.line;
-      entries = q2 ∙ z.entries;
-      boxes = q3 ∙ z.boxes;
-      cache = q4 ∙ z.cache;
-      peers = q5 ∙ z.peers;
-      answer = q6 ∙ z.answer;
-      listing = q7 ∙ z.listing;
-      first = q8 ∙ z.first;
-      second = q9 ∙ z.second;
-      out = q10 ∙ z.out;
-    }
-
-pub begins : {l e b k p a i f s o : List ℕ} {h : Kept} → Sized l e b k p a i f s o → h ≡ nothing → Running l e b k p a i f s o h
-begins {l} {e} {b} {k} {p} {a} z q = record { sized = z; holds = rw q (holds-nothing e b k p a (omega (arith, z.cache)) (omega (arith, z.peers))) }

@@ -1,24 +1,32 @@
 use mathlib.Core.Path.{◌∙◌}
+use Rattle.std.proofs.Common.{refl}
+use Rattle.std.specs.Prelude.{false}
 use Rattle.console.specs.After.{after_same}
-use Rattle.console.specs.Laws.{after-as, line-called, line-lacking, called-started, called-altered, called-asked, called-unread}
+use Rattle.console.specs.Calls.{lacks_pool}
+use Rattle.console.specs.Desk.{as-long, line-alters, line-asks, alter-lacks, ask-lacks}
+use Rattle.console.specs.Laws.{after-as, line-called, called-started, called-unread}
 use Rattle.console.proofs.tell.Goals as goal
 
--- src/lib.rt:66:9
-pub returns-then-lacks_pool : goal.returns-then-lacks_pool
-returns-then-lacks_pool c = after-as (line-lacking _ _ _ _ _ _ _ _ _ _ _ c.lacks_pool.ensures c.if-lacks_pool.true) (after_same _ _ _ _ _ _ _ _ _ _ c.requires.holds c.no_pool-len.ensures)
-
--- src/lib.rt:44:1
 pub returns-in-Start : goal.returns-in-Start
-returns-in-Start c = after-as (line-called _ _ _ _ _ _ _ _ _ _ _ c.lacks_pool.ensures c.if-lacks_pool.false ∙ called-started _ _ _ _ _ _ _ _ _ _ _ _ c.in-Start.is) c.on_pool.ensures
+unfolding lacks_pool
+returns-in-Start c =
+    record {
+      after = after-as (line-called _ _ _ _ _ _ _ _ _ _ _ {t = false} (rw c.in-Start.is refl) refl ∙ called-started _ _ _ _ _ _ _ _ _ _ _ _ c.in-Start.is) c.on_pool.ensures.after;
+      same_lengths = as-long c.on_pool.ensures.same_words;
+    }
 
--- src/lib.rt:44:1
-pub returns-in-Alter : goal.returns-in-Alter
-returns-in-Alter c = after-as (line-called _ _ _ _ _ _ _ _ _ _ _ c.lacks_pool.ensures c.if-lacks_pool.false ∙ called-altered _ _ _ _ _ _ _ _ _ _ _ _ c.in-Alter.is) c.alter.ensures
+pub returns-in-Unreadable-clause-after : goal.returns-in-Unreadable-clause-after
+unfolding lacks_pool
+returns-in-Unreadable-clause-after c = after-as (line-called _ _ _ _ _ _ _ _ _ _ _ {t = false} (rw c.in-Unreadable.is refl) refl ∙ called-unread _ _ _ _ _ _ _ _ _ _ _ c.in-Unreadable.is) (after_same _ _ _ _ _ _ _ _ _ _ c.requires.holds c.unread.ensures)
 
--- src/lib.rt:44:1
-pub returns-in-Ask : goal.returns-in-Ask
-returns-in-Ask c = after-as (line-called _ _ _ _ _ _ _ _ _ _ _ c.lacks_pool.ensures c.if-lacks_pool.false ∙ called-asked _ _ _ _ _ _ _ _ _ _ _ _ c.in-Ask.is) (after_same _ _ _ _ _ _ _ _ _ _ c.requires.holds c.ask-len.ensures)
+pub returns-in-Some-clause-after : goal.returns-in-Some-clause-after
+returns-in-Some-clause-after c = after-as (line-alters c.args.desk.now _ _ _ _ _ c.in-Some.is c.in-Alter.is) c.alter.ensures.after
 
--- src/lib.rt:44:1
-pub returns-in-Unreadable : goal.returns-in-Unreadable
-returns-in-Unreadable c = after-as (line-called _ _ _ _ _ _ _ _ _ _ _ c.lacks_pool.ensures c.if-lacks_pool.false ∙ called-unread _ _ _ _ _ _ _ _ _ _ _ c.in-Unreadable.is) (after_same _ _ _ _ _ _ _ _ _ _ c.requires.holds c.unread-len.ensures)
+pub returns-in-None-clause-after : goal.returns-in-None-clause-after
+returns-in-None-clause-after c = after-as (alter-lacks c.args.desk.now _ _ _ _ _ c.in-None.is c.in-Alter.is) (after_same _ _ _ _ _ _ _ _ _ _ c.requires.holds c.no_pool.ensures)
+
+pub returns-in-Some-held-clause-after : goal.returns-in-Some-held-clause-after
+returns-in-Some-held-clause-after c = after-as (line-asks c.args.desk.now _ _ _ _ _ c.in-Some-held.is c.in-Ask.is) (after_same _ _ _ _ _ _ _ _ _ _ c.requires.holds c.ask.ensures)
+
+pub returns-in-None-held-clause-after : goal.returns-in-None-held-clause-after
+returns-in-None-held-clause-after c = after-as (ask-lacks c.args.desk.now _ _ _ _ _ c.in-None-held.is c.in-Ask.is) (after_same _ _ _ _ _ _ _ _ _ _ c.requires.holds c.no_pool-in-None-held.ensures)

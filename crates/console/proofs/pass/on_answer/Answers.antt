@@ -3,7 +3,6 @@ use Rattle.console.specs.Laws.{after-pass}
 use Rattle.peers.specs.Flat.{records}
 use Rattle.console.proofs.pass.on_answer.Goals as goal
 
--- src/pass.rt:104:1
-pub returns : goal.returns
+pub returns-clause-after : goal.returns-clause-after
 unfolding altered
-returns c n p a s y = after-pass _ _ _ _ _ _ _ _ _ _ _ _ _ _ _ _ (c.answer-answered.ensures.answer_promise (records p) y.store) c.tell_answered-len.ensures
+returns-clause-after c n s y = after-pass _ _ _ _ _ _ _ _ _ _ _ _ _ _ _ _ (c.answer-answered.ensures.answer_promise (records c.args.desk.now.peers.now) y.store) c.tell_answered.ensures

@@ -1,9 +1,7 @@
 use Rattle.console.specs.Console.{altered}
 use Rattle.console.specs.Laws.{after-pass}
-use Rattle.peers.specs.Flat.{records}
 use Rattle.console.proofs.pass.on_next.Goals as goal
 
--- src/pass.rt:82:1
-pub returns : goal.returns
+pub returns-clause-after : goal.returns-clause-after
 unfolding altered
-returns c b k p a f s y = after-pass _ _ _ _ _ _ _ _ _ _ _ _ _ _ _ _ (c.next-offered.ensures.next_promise b k (records p) y.store) c.tell_offered-len.ensures
+returns-clause-after c f s y = after-pass _ _ _ _ _ _ _ _ _ _ _ _ _ _ _ _ (c.next-offered.ensures.next_promise _ _ _ y.store) c.tell_offered.ensures

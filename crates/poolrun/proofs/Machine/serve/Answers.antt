@@ -1,0 +1,22 @@
+-- `serve` meets its contract: the reads so far (`Serving`).
+use Rattle.std.proofs.Common.{refl, ◌∙◌, arith}
+use Rattle.poolrun.specs.Poolrun.{turn_holds, serving-none, serving-more, serving-left, serves-over}
+use Rattle.poolrun.proofs.Machine.serve.Goals as goal
+
+pub loop-turn-init : goal.loop-turn-init
+loop-turn-init g c = record { room = refl; holds = c.requires; served = serving-none }
+
+pub returns-then-turn : goal.returns-then-turn
+returns-then-turn g c =
+    let v = c.loop-turn.invariant in
+    serves-over _ _ _ _ v.room v.served refl c.read_some-n.ensures.bytes (rw c.if-turn.true at c.turn.ensures) refl
+
+pub loop-turn-preserved : goal.loop-turn-preserved
+loop-turn-preserved g c =
+    let v = c.loop-turn.invariant in
+    let x = rw c.if-turn.false at c.turn.ensures in
+    record {
+      room = c.read_some-n.auto.buf ∙ v.room;
+      holds = turn_holds v.holds x.is;
+      served = serving-left _ _ (omega arith) (serving-more _ _ _ _ v.room v.served refl c.read_some-n.ensures.bytes x (omega arith));
+    }
