@@ -1,7 +1,7 @@
 -- Laws of numbers in text: what the readers and printers do, and that reading what was printed gives it back (`number-back`, `id-back`).
-use Rattle.std.specs.Prelude.{ℕ, zero, suc, ◌+◌, ◌-◌, ◌*◌, ◌/◌, ◌%◌, ◌^◌, ◌<◌, ◌≤◌, ◌≡◌, Bool, length, get_or, take, drop, set, ltb, Option, Some, None}
+use Rattle.std.specs.Prelude.{ℕ, zero, suc, ◌⊎◌, ◌+◌, ◌-◌, ◌*◌, ◌/◌, ◌%◌, ◌^◌, ◌<◌, ◌≤◌, ◌≡◌, Bool, length, get_or, take, drop, set, ltb, Option, Some, None}
 use Rattle.std.proofs.Math.Path.{refl, sym, ap, ap₂, subst}
-use Rattle.std.proofs.Common.{◌∙◌, add-one, mod-eq_of_lt, mul-le-mul_right, mul-le-mul_left, le-div_iff_mul-le, div-lt_iff_lt-mul, div-add-mod', mod-lt, pow-suc, mul_assoc, add-mul, one-mul, length-drop, length-append, take-append-drop, drop-cons, drop_of_length-le, drop-drop, take-add, take-take, length-take-le, drop_at, take_at, leb-true, le-leb, lt-ltb, le-ltb, ltb-true, ltb-false}
+use Rattle.std.proofs.Common.{◌∙◌, inl, inr, add-one, mod-eq_of_lt, mul-le-mul_right, mul-le-mul_left, le-div_iff_mul-le, div-lt_iff_lt-mul, div-add-mod', mod-lt, pow-suc, mul_assoc, add-mul, one-mul, length-drop, length-append, take-append-drop, drop-cons, drop_of_length-le, drop-drop, length-take-le, drop_at, take_at, leb-true, le-leb, lt-ltb, le-ltb, ltb-true, ltb-false}
 use Rattle.std.proofs.Math.Bool.{true, false}
 use mathlib.Core.List.{List, [], ◌∷◌, ◌++◌, append_assoc}
 use native.Mathlib.Omega.{arith}
@@ -9,12 +9,14 @@ use Rattle.std.proofs.Math.Nat.{mul-add-div_right, mul-add-mod_self_right, div-e
 use Rattle.std.proofs.lemmas.List.{set_at, set_split}
 use Rattle.std.proofs.Math.Dec.{leb}
 use Rattle.std.proofs.lemmas.Bool.{lt-leb}
+use Rattle.std.proofs.lemmas.Bool.Decides.{nat_tests}
+use Rattle.std.specs.Char.{digit_value}
 use Rattle.words.specs.Lists.{pick}
 use Rattle.words.specs.Ids.{Words}
 use Rattle.words.specs.declared.ids.Id.{Id}
 use Rattle.forms.specs.Text.{within}
 use Rattle.forms.specs.TextLaws.{true-false, by_bool}
-use Rattle.forms.specs.Nums.{digit_of, is_digits, more, number, decimal, is_hex, front, last16, joined, id_number, id_of_digits, id_read, digit_byte, numeral, decimal_text, id_text, over, Prints, Digits, IsDigit, Numeral, Stepped, Lower, Shows, Printed, upto, Pads, Padded, Sofar, Words16, Walked}
+use Rattle.forms.specs.Nums.{digit_of, is_digits, more, number, decimal, is_hex, front, last16, joined, id_number, id_of_digits, id_read, digit_byte, numeral, decimal_text, id_text, over, Prints, Digits, Numeral, Stepped, Lower, Shows, Printed, upto, Pads, Padded, Sofar, Words16, Walked}
 
 -- ---- the numbers
 
@@ -125,6 +127,9 @@ within-out a z c n =
     (λ p. ap (λ (b : Bool). pick b (leb c z) false) p ∙ by_bool (leb c z) (λ q. absurd (n (leb-true a c p) (leb-true c z q))) (λ q. q))
     (λ p. ap (λ (b : Bool). pick b (leb c z) false) p)
 
+within-not : (a z c : ℕ) → within a z c ≡ false → a ≤ c → c ≤ z → ⊥
+within-not a z c e h k = true-false (within-yes a z c h k) e
+
 within-below : (a z c : ℕ) → c < a → within a z c ≡ false
 within-below a z c h = within-out a z c (λ p q. omega arith)
 
@@ -152,27 +157,29 @@ module _ (c : ℕ) where
   digit-4 e f g = ap₂ (λ (a b : Bool). pick a (c - 48) (pick b (c - 87) (pick (within 65 70 c) (c - 55) 99))) e f ∙ ap (λ (b : Bool). pick b (c - 55) 99) g
 
 module _ (c : ℕ) where
-  pub digit-low : 48 ≤ c → c ≤ 57 → IsDigit c (Some (c - 48))
-  unfolding IsDigit
-  digit-low p q = (sym (digit-1 c (within-yes 48 57 c p q)), omega arith)
+  -- the library's digit of a byte is that of base 16, where either is one
+  pub value_of : ((16 ≤ digit_value c) × (16 ≤ digit_of c)) ⊎ (digit_value c ≡ digit_of c)
+  value_of =
+      by_bool (within 48 57 c) (λ e. let h = within_low 48 57 c e in let v : digit_value c ≡ c - 48 = grind (arith, nat_tests) in inr (v ∙ sym (digit-1 c e)))
+      (λ e. by_bool (within 97 102 c) (λ f. let h = within_low 97 102 c f in let v : digit_value c ≡ c - 87 = grind (arith, nat_tests) in inr (v ∙ sym (digit-2 c e f)))
+      (λ f. by_bool (within 65 70 c) (λ g. let h = within_low 65 70 c g in let v : digit_value c ≡ c - 55 = grind (arith, nat_tests) in inr (v ∙ sym (digit-3 c e f g)))
+      (λ g. inl (far (within-not 48 57 c e) (within-not 97 102 c f) (within-not 65 70 c g), omega (arith, digit-4 c e f g)))))
+    where
+      far : (48 ≤ c → c ≤ 57 → ⊥) → (97 ≤ c → c ≤ 102 → ⊥) → (65 ≤ c → c ≤ 70 → ⊥) → 16 ≤ digit_value c
+      far n m k = grind (arith, nat_tests)
 
-  pub digit-lower : 97 ≤ c → c ≤ 102 → IsDigit c (Some (c - 97 + 10))
-  unfolding IsDigit
-  digit-lower p q =
-      let e = digit-2 c (within-no 48 57 c (omega arith)) (within-yes 97 102 c p q) in
-      (omega arith, omega arith)
+-- of the character x of a byte c, in a base of at most 16
+pub is_digit : (b c d x : ℕ) → b ≤ 16 → x ≡ c → digit_value x < b → d ≡ digit_value x → (digit_of c < b) × (d ≡ digit_of c)
+is_digit b c d x h e l q = subst (λ (y : ℕ). digit_value y < b → d ≡ digit_value y → (digit_of c < b) × (d ≡ digit_of c)) (sym e) here l q
+  where
+    here : digit_value c < b → d ≡ digit_value c → (digit_of c < b) × (d ≡ digit_of c)
+    here l q = elim (value_of c) [ inl n ↦ absurd (omega arith) | inr v ↦ (omega arith, omega arith) ]
 
-  pub digit-upper : 65 ≤ c → c ≤ 70 → IsDigit c (Some (c - 65 + 10))
-  unfolding IsDigit
-  digit-upper p q =
-      let e = digit-3 c (within-no 48 57 c (omega arith)) (within-below 97 102 c (omega arith)) (within-yes 65 70 c p q) in
-      (omega arith, omega arith)
-
-  pub digit-none : (48 ≤ c → c ≤ 57 → ⊥) → (97 ≤ c → c ≤ 102 → ⊥) → (65 ≤ c → c ≤ 70 → ⊥) → IsDigit c None
-  unfolding IsDigit
-  digit-none n m k =
-      let e = digit-4 c (within-out 48 57 c n) (within-out 97 102 c m) (within-out 65 70 c k) in
-      omega arith
+pub no_digit : (b c x : ℕ) → b ≤ 16 → x ≡ c → (digit_value x < b → ⊥) → b ≤ digit_of c
+no_digit b c x h e n = subst (λ (y : ℕ). (digit_value y < b → ⊥) → b ≤ digit_of c) (sym e) here n
+  where
+    here : (digit_value c < b → ⊥) → b ≤ digit_of c
+    here n = elim (value_of c) [ inl m ↦ omega arith | inr v ↦ omega (arith, n) ]
 
 nil-of : (t : List ℕ) → length t ≡ 0 → t ≡ []
 nil-of [] e = refl

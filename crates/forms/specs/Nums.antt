@@ -101,11 +101,6 @@ unfoldable pub Digits : ℕ → List ℕ → Type 0
 Digits b [] = Unit {0}
 Digits b (c ∷ s) = (digit_of c < b) × Digits b s
 
--- the digit of base 16 that a byte stands for
-unfoldable pub IsDigit : ℕ → Option ℕ → Type 0
-IsDigit c (Some d) = (d ≡ digit_of c) × (d < 16)
-IsDigit c None = 16 ≤ digit_of c
-
 -- the answer of the reader in any base
 unfoldable pub Numeral : ℕ → ℕ → List ℕ → Option ℕ → Type 0
 Numeral b limit s (Some v) = Digits b s × (v ≡ number b s) × (v ≤ limit)

@@ -1,20 +1,8 @@
 // Numbers and ids in text: read and printed.
 ghost use Rattle.std.specs.Prelude.{◌≡◌, ◌+◌, ◌*◌, ◌^◌, ◌≤◌, ◌<◌, length};
-ghost use Rattle.forms.specs.Nums.{IsDigit, Numeral, decimal, front, last16, id_read, Stepped, digit_byte, Printed, Padded, Words16, upto, Prints, id_text, decimal_text, id_number};
+ghost use Rattle.forms.specs.Nums.{Numeral, decimal, front, last16, id_read, Stepped, digit_byte, Printed, Padded, Words16, upto, Prints, id_text, decimal_text, id_number};
 
 use words::ids::Id;
-
-// The digit of base 16 that a byte stands for.
-fn digit_of(c: u8) -> Option<u64>
-    ensures { IsDigit c result }
-{
-    match c {
-        b'0'..=b'9' => Some((c - b'0') as u64),
-        b'a'..=b'f' => Some((c - b'a') as u64 + 10),
-        b'A'..=b'F' => Some((c - b'A') as u64 + 10),
-        _ => None,
-    }
-}
 
 // One digit more, unless the limit is passed.
 fn step(v: u64, base: u64, d: u64, limit: u64) -> Option<u64>
@@ -28,17 +16,14 @@ fn step(v: u64, base: u64, d: u64, limit: u64) -> Option<u64>
 }
 
 // The number of some digits in a base of at most 16.
-fn read_number(digits: &[u8], base: u64, limit: u64) -> Option<u64>
-    requires { (0 < base) × (base ≤ 16) }
+fn read_number(digits: &[u8], base: u32, limit: u64) -> Option<u64>
+    requires { (2 ≤ base) × (base ≤ 16) }
     ensures { Numeral base limit digits.now result }
 {
     let mut v: u64 = 0;
     for c in digits {
-        let d = digit_of(*c)?;
-        if base <= d {
-            return None;
-        }
-        v = step(v, base, d, limit)?;
+        let d = char::from(*c).to_digit(base)?;
+        v = step(v, base as u64, d as u64, limit)?;
     }
     Some(v)
 }
@@ -82,18 +67,23 @@ pub fn read_id(word: &[u8]) -> Option<Id>
     })
 }
 
-// The byte of a digit.
+// What is printed stands from a place on, and the place past it is returned: a struct of buffer and place is no plainer here, since crate replies keeps
+// them so (`Line`) and calls `print_id` and `print_number` once each.
+
+// The byte of a digit. No plainer by `char::from_digit`, which gives an Option of a char.
+#[tactic(auto, using(crate::specs::NumLaws::byte_low, crate::specs::NumLaws::byte_high))]
 fn digit_byte(d: u64) -> u8
     requires { d < 16 }
     ensures { result ≡ digit_byte d }
 {
     if d < 10 {
-        return (48 + d) as u8;
+        return b'0' + d as u8;
     }
-    (87 + d) as u8
+    b'a' + (d - 10) as u8
 }
 
-// Prints v from `at` on, without leading zeros, in at most `width` digits. Returns the place past it.
+// Prints v from `at` on, without leading zeros, in at most `width` digits. Returns the place past it. A recursion, since a loop
+// would be no plainer: the first digit is found last and printed first.
 fn print(out: &mut [u8], at: usize, v: u64, base: u64, width: usize) -> usize
     requires { (1 < base) × (base ≤ 16) × (0 < width) × (v < base ^ width) × (at + width ≤ length out.old) }
     ensures { Printed base v width at out.old out.new result }

@@ -1,11 +1,10 @@
 -- Laws of a block's transactions: the record of each is written behind those before it, and its boxes behind theirs.
 use Rattle.std.specs.Prelude.{ℕ, ◌+◌, ◌-◌, ◌/◌, ◌<◌, ◌≤◌, ◌≡◌, Bool, take, drop, leb}
 use Rattle.std.proofs.Math.Path.{refl, sym, ap, ap₂, subst}
-use Rattle.std.proofs.Common.{◌∙◌, arith, length-drop, drop-drop, length-take-le}
+use Rattle.std.proofs.Common.{◌∙◌, arith}
 use Rattle.std.proofs.Math.Bool.{true, false}
 use mathlib.Core.List.{List, [], ◌∷◌, ◌++◌, append_assoc, append-nil}
-use Rattle.std.proofs.Math.ListN.{length, set, length-append}
-use Rattle.std.proofs.Math.Seq.{take-length, drop-length}
+use Rattle.std.proofs.Math.ListN.{length, length-append}
 use borrow.Author.Tests.{le-leb, lt-leb, leb-false}
 use Rattle.words.specs.Lists.{pick}
 use Rattle.words.specs.Rows.{stored}
@@ -18,7 +17,7 @@ use Rattle.forms.specs.NumLaws.{wrote_then}
 use Rattle.lines.specs.Fields.{Rest, gone, here, list_of, past_list, ended, value, past, ids, Stands, FieldAt, NoField}
 use Rattle.lines.specs.FieldLaws.{stands-list, stands-no-list, stands-end, list-behind}
 use Rattle.lines.specs.Items.{boxes, words_of, all_ok, words_in, all_in, fits, count_of, past_items, count_in, past_one, ListAt, NoListed}
-use Rattle.lines.specs.ItemLaws.{stored-over, past-gone, list-one, ends-gone, words-in-length}
+use Rattle.lines.specs.ItemLaws.{lent_length, back, back-length, stored-over, past-gone, list-one, ends-gone, words-in-length}
 use Rattle.lines.specs.Blocks.{box_list, tx_words, box_words, is_tx, transactions, inputs_of, inputs_in, fits_block, txs_count, inputs_count, past_block, tx_fits, TxAt, NoTx, TxsAt, NoTxs, BlockAt, NoBlock}
 
 -- ---- one transaction
@@ -103,8 +102,8 @@ module _ (s : List ℕ) (g : Bool) (d : ℕ) where
         unfolding NoTx
         tx-off e t q h = sym (tested t q h) ∙ e
 
-        -- y is x with its id, and m the word behind it
-        pub tx-yes : (k : ℕ) (x y : List ℕ) (m : ℕ) → b ≡ true → k + 5 ≤ length x → y ≡ stored x k (id_words w) → m ≡ n / 4 → TxAt s g d k x (set y (k + 4) m) v z n r
+        -- y is x with its id and m
+        pub tx-yes : (k : ℕ) (x y : List ℕ) (m : ℕ) → b ≡ true → k + 5 ≤ length x → y ≡ stored x k (id_words w ++ (m ∷ [])) → m ≡ n / 4 → TxAt s g d k x y v z n r
         unfolding count_of boxes box_words box_list tx_words
         tx-yes k x y m p room put num =
             record {
@@ -116,36 +115,17 @@ module _ (s : List ℕ) (g : Bool) (d : ℕ) where
                   let i = list_of (past ids (list_of q)) in
                   let len : n ≡ length (words_in boxes i) = (f2.is r _ st.0).0 ∙ ap (λ (c : Bool). pick c (length (words_in boxes i)) 0) fit in
                   let count : m ≡ count_in i = omega (arith, words-in-length boxes i) in (
-                    ap (λ (c : List ℕ). set c (k + 4) m) put ∙ stored-over (id_words w ++ (m ∷ [])) x k room ∙ ap₂ (λ (a : Id) (c : ℕ). over k (id_words a ++ (c ∷ [])) x) st.1 count,
+                    put ∙ stored-over (id_words w ++ (m ∷ [])) x k room ∙ ap₂ (λ (a : Id) (c : ℕ). over k (id_words a ++ (c ∷ [])) x) st.1 count,
                     f2.wrote r _ st.0,
                     len,
                   );
             }
 
--- ---- a part of a slice that was lent
-
-module _ (z : List ℕ) (j : ℕ) (h : j ≤ length z) where
-  pub lent : take (length z - j) (drop j z) ≡ drop j z
-  lent = ap (λ (n : ℕ). take n (drop j z)) (sym (length-drop j z)) ∙ take-length (drop j z)
-
-  pub lent_length : length (take (length z - j) (drop j z)) ≡ length z - j
-  lent_length = ap length lent ∙ length-drop j z
-
-  none_left : drop (length z - j) (drop j z) ≡ []
-  none_left = ap (λ (n : ℕ). drop n (drop j z)) (sym (length-drop j z)) ∙ drop-length (drop j z)
-
-  -- what was written in front of it stands from j on
-  pub back : (u ws : List ℕ) → u ≡ over 0 ws (take (length z - j) (drop j z)) → take j z ++ (u ++ drop (length z - j) (drop j z)) ≡ over j ws z
-  back u ws e =
-      ap₂ (λ (p q : List ℕ). take j z ++ (p ++ q)) (e ∙ ap (over 0 ws) lent) none_left
-      ∙ ap (λ (p : List ℕ). take j z ++ p) (append-nil (ws ++ drop (0 + length ws) (drop j z)) ∙ ap (λ (p : List ℕ). ws ++ p) (ap (λ (n : ℕ). drop n (drop j z)) zero-add ∙ drop-drop (length ws) j z))
-    where
-      zero-add : 0 + length ws ≡ length ws
-      zero-add = omega arith
-
-  back-length : (u : List ℕ) → length u ≡ length (take (length z - j) (drop j z)) → length (take j z ++ (u ++ drop (length z - j) (drop j z))) ≡ length z
-  back-length u e =
-      length-append (take j z) (u ++ drop (length z - j) (drop j z)) ∙ omega (arith, length-append u (drop (length z - j) (drop j z)), length-take-le j z h, ap length none_left, lent_length)
+-- of a record that was written to the front of a part from k on
+pub tx-part : (s : List ℕ) (g : Bool) (d k : ℕ) (y u v z : List ℕ) (n : ℕ) (r : List ℕ) → k ≤ length y → TxAt s g d 0 (take (length y - k) (drop k y)) u v z n r
+    → TxAt s g d k y (take k y ++ (u ++ drop (length y - k) (drop k y))) v z n r
+tx-part s g d k y u v z n r h a =
+    record { behind = a.behind; room = a.room; is = a.is; wrote = λ t q p. let w = a.wrote t q p in (back y k h u (tx_words (list_of q)) w.0, w.1, w.2) }
 
 -- ---- lists that have no room
 

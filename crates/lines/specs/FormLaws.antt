@@ -1,12 +1,12 @@
 -- Laws of forms: a form that is read has lists that have room, its first word decides, and a line says one thing.
-use Rattle.std.specs.Prelude.{ℕ, ◌≤◌, ◌≡◌, refl, Bool, false, length, Option, Some, None, unwrap_or}
+use Rattle.std.specs.Prelude.{ℕ, ◌≡◌, refl, Bool, false, length, Option, Some, None, unwrap_or}
 use Rattle.std.proofs.Math.Path.{sym, ap, subst}
 use Rattle.std.proofs.Common.{◌∙◌}
 use Rattle.std.proofs.Math.Bool.{true}
 use mathlib.Core.List.{List, []}
 use Rattle.words.specs.Lists.{pick}
 use Rattle.forms.specs.Nums.{over}
-use Rattle.forms.specs.TextLaws.{true-false, by_bool}
+use Rattle.forms.specs.TextLaws.{true-false}
 use Rattle.lines.specs.declared.read.Form.{Form}
 use Rattle.lines.specs.declared.read.Form.TheVariants.{Unread}
 use Rattle.lines.specs.Fields.{Rest, gone, here, word_of, past_word, list_of, past_list, ended, Stands, same, is_judged, past_verdict}

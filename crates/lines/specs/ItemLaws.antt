@@ -6,18 +6,18 @@ use Rattle.std.proofs.Math.Bool.{true, false}
 use mathlib.Core.List.{List, [], ◌∷◌, ◌++◌, append_assoc, append-nil}
 use Rattle.std.proofs.Math.ListN.{length, take, drop, length-append}
 use Rattle.std.proofs.lemmas.List.Edits.{sets, sets-eq}
-use Rattle.std.proofs.Math.Seq.{drop-drop, length-take-le}
+use Rattle.std.proofs.Math.Seq.{drop-drop, length-take-le, take-length, drop-length}
 use Rattle.std.proofs.lemmas.Bool.{lt-leb}
 use Rattle.words.specs.Lists.{pick}
 use Rattle.words.specs.Rows.{stored, puts}
 use Rattle.words.specs.Ids.{id_words}
 use Rattle.words.specs.declared.ids.Id.{Id}
 use Rattle.forms.specs.Text.{Members, none, word, sub, NoList, ListHere, EndHere}
-use Rattle.forms.specs.TextLaws.{true-false, by_bool}
+use Rattle.forms.specs.TextLaws.{by_bool}
 use Rattle.forms.specs.Nums.{over}
 use Rattle.forms.specs.NumLaws.{id-none}
 use Rattle.lines.specs.declared.items.Records.{Records}
-use Rattle.lines.specs.Fields.{Rest, gone, here, word_of, past_word, list_of, past_list, ended, Kind, value, past, ids, either, choices, number32, number64, is_of, same, Stands, FieldAt, NoField}
+use Rattle.lines.specs.Fields.{Rest, gone, here, word_of, past_word, list_of, past_list, ended, Kind, past, ids, either, choices, number32, number64, is_of, same, Stands, FieldAt, NoField}
 use Rattle.lines.specs.FieldLaws.{stands-list, stands-no-list, stands-end, list-behind, then-gone}
 use Rattle.lines.specs.Items.{Item, item_of, w_set, w_not, w_fee, w_pay, word_item, list_item, input_words, is_input, height_words, is_height, output_words, is_output, words_of, all_ok, words_in, all_in, fits, count_of, past_items, count, count_in, past_one, ItemAt, NoItem, ItemsAt, NoItems, ListAt, NoListed}
 
@@ -36,6 +36,31 @@ stored-over vs l p h = go vs ∙ sets-eq vs l p h ∙ append_assoc (take p l) vs
 
 pub one-stored : (x : List ℕ) (k v : ℕ) → set x k v ≡ stored x k (v ∷ [])
 one-stored x k v = refl
+
+-- ---- a part of a slice that was lent
+
+module _ (z : List ℕ) (j : ℕ) (h : j ≤ length z) where
+  pub lent : take (length z - j) (drop j z) ≡ drop j z
+  lent = ap (λ (n : ℕ). take n (drop j z)) (sym (length-drop j z)) ∙ take-length (drop j z)
+
+  pub lent_length : length (take (length z - j) (drop j z)) ≡ length z - j
+  lent_length = ap length lent ∙ length-drop j z
+
+  none_left : drop (length z - j) (drop j z) ≡ []
+  none_left = ap (λ (n : ℕ). drop n (drop j z)) (sym (length-drop j z)) ∙ drop-length (drop j z)
+
+  -- what was written in front of it stands from j on
+  pub back : (u ws : List ℕ) → u ≡ over 0 ws (take (length z - j) (drop j z)) → take j z ++ (u ++ drop (length z - j) (drop j z)) ≡ over j ws z
+  back u ws e =
+      ap₂ (λ (p q : List ℕ). take j z ++ (p ++ q)) (e ∙ ap (over 0 ws) lent) none_left
+      ∙ ap (λ (p : List ℕ). take j z ++ p) (append-nil (ws ++ drop (0 + length ws) (drop j z)) ∙ ap (λ (p : List ℕ). ws ++ p) (ap (λ (n : ℕ). drop n (drop j z)) zero-add ∙ drop-drop (length ws) j z))
+    where
+      zero-add : 0 + length ws ≡ length ws
+      zero-add = omega arith
+
+  pub back-length : (u : List ℕ) → length u ≡ length (take (length z - j) (drop j z)) → length (take j z ++ (u ++ drop (length z - j) (drop j z))) ≡ length z
+  back-length u e =
+      length-append (take j z) (u ++ drop (length z - j) (drop j z)) ∙ omega (arith, length-append u (drop (length z - j) (drop j z)), length-take-le j z h, ap length none_left, lent_length)
 
 -- nothing written is the same words written
 module _ (x : List ℕ) (k w : ℕ) (h : k + w ≤ length x) where
@@ -364,9 +389,14 @@ module _ (it : Item) (s : List ℕ) (d : ℕ) (r : List ℕ) (g : Bool) (x y : L
 pub end_is : (s : List ℕ) (g r b : Bool) → EndHere s g r → r ≡ b → EndHere s g b
 end_is s g r b f e = subst (λ (z : Bool). EndHere s g z) e f
 
+-- of a record that was written to the front of a part from k on
+pub item-part : (it : Item) (s : List ℕ) (g : Bool) (d k : ℕ) (y u r : List ℕ) → k ≤ length y → ItemAt it s g d 0 (take (length y - k) (drop k y)) u r
+    → ItemAt it s g d k y (take k y ++ (u ++ drop (length y - k) (drop k y))) r
+item-part it s g d k y u r h a = record { behind = a.behind; words = a.words; wide = a.wide; wrote = back y k h u a.words a.wrote; is = a.is }
+
 -- a record of any kind is one of that kind
-pub kind-room : (kind other : Records) (k n : ℕ) → kind ≡ other → k + (item_of kind).width ≤ n → k + (item_of other).width ≤ n
-kind-room kind other k n e h = subst (λ (z : Records). k + (item_of z).width ≤ n) e h
+pub kind-room : (kind other : Records) (n : ℕ) → kind ≡ other → (item_of kind).width ≤ n → (item_of other).width ≤ n
+kind-room kind other n e h = subst (λ (z : Records). (item_of z).width ≤ n) e h
 
 pub item-kind : {A : Type 0} (kind other : Records) (s : List ℕ) (g : Bool) (d k : ℕ) (x y : List ℕ) (o : Option A) (now : A → List ℕ) → kind ≡ other
     → MatchOption o (NoItem (item_of other) s g d) (λ r. ItemAt (item_of other) s g d k x y (now r)) → MatchOption o (NoItem (item_of kind) s g d) (λ r. ItemAt (item_of kind) s g d k x y (now r))

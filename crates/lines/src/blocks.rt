@@ -1,36 +1,37 @@
 // The transactions of a block, read into two slices: a record for each, its id and the number of its boxes, and the boxes of all of them, in order.
-ghost use Rattle.std.specs.Prelude.{◌+◌, ◌≤◌, ◌<◌, length, MatchOption};
+ghost use Rattle.std.specs.Prelude.{◌≤◌, ◌<◌, length, MatchOption};
 ghost use Rattle.lines.specs.Blocks.{TxAt, NoTx, TxsAt, NoTxs, BlockAt, NoBlock};
 
 use crate::fields::id;
 use crate::items::{Records, list_field};
 use forms::text::{ends, inside};
-use words::ids::put_id;
+use words::rows::put_words;
 
-// A transaction: `(ID (BOX..))`. Its record goes into `first` from `k` on, its boxes into `tail`: so many words.
+// A transaction: `(ID (BOX..))`. Its record goes to the front of `first`, its boxes to that of `second`:
+// so many words.
 fn put_tx<'a>(
     rest: &'a [u8],
     gap: bool,
     depth: usize,
     first: &mut [u64],
-    k: usize,
-    tail: &mut [u64],
+    second: &mut [u64],
 ) -> Option<(usize, &'a [u8])>
-    requires { (1 < depth) × (k + 5 ≤ length first.old) }
-    ensures { MatchOption result (NoTx rest.now gap depth (length tail.old)) (λ p. TxAt rest.now gap depth k first.old first.new tail.old tail.new p.0 p.1.now) }
+    requires { (1 < depth) × (5 ≤ length first.old) }
+    ensures { MatchOption result (NoTx rest.now gap depth (length second.old)) (λ p. TxAt rest.now gap depth 0 first.old first.new second.old second.new p.0 p.1.now) }
 {
     let (inside, behind) = inside(rest, gap, depth)?;
     let (id, rest) = id(inside, true)?;
-    let (words, rest) = list_field(rest, depth - 1, Records::Boxes, tail)?;
+    let (words, rest) = list_field(rest, depth - 1, Records::Boxes, second)?;
     if !ends(rest, false) {
         return None;
     }
-    put_id(first, k, id);
-    first[k + 4] = (words / 4) as u64;
+    let boxes = (words / 4) as u64;
+    put_words(first, 0, &[id.a, id.b, id.c, id.d, boxes]);
     Some((words, behind))
 }
 
-// All transactions of a block, from behind the list's opening bracket: the words that were written into both slices.
+// All transactions of a block, from behind the list's opening bracket: the words that were written into both slices. `k` and `j` are where
+// the free parts begin; how far the second goes is known only behind a transaction, so that a `for` is no plainer.
 fn all_txs(
     inside: &[u8],
     depth: usize,
@@ -49,7 +50,7 @@ fn all_txs(
             return None;
         }
         let from = j;
-        let (words, behind) = put_tx(rest, gap, depth, first, k, &mut second[from..])?;
+        let (words, behind) = put_tx(rest, gap, depth, &mut first[k..], &mut second[from..])?;
         rest = behind;
         gap = false;
         k += 5;

@@ -42,7 +42,8 @@ pub fn id(rest: &[u8], gap: bool) -> Option<(Id, &[u8])>
     Some((value, rest))
 }
 
-// Whether two words are the same.
+// Whether two words are the same. A bare `==` is no plainer: the library says it byte by byte, and each of the readers' tests would turn that into
+// `same`.
 pub fn same_word(word: &[u8], other: &[u8]) -> bool
     ensures { result ≡ same word.now other.now }
 {

@@ -1,12 +1,11 @@
 // Lists of records in a form, read into flat words.
-ghost use Rattle.std.specs.Prelude.{◌≡◌, ◌+◌, ◌≤◌, ◌<◌, [], ◌∷◌, ◌++◌, length, MatchOption};
-ghost use Rattle.words.specs.Rows.{stored};
-ghost use Rattle.words.specs.Ids.{id_words};
+ghost use Rattle.std.specs.Prelude.{◌≡◌, ◌≤◌, ◌<◌, length, MatchOption};
 ghost use Rattle.lines.specs.Items.{ItemAt, NoItem, ItemsAt, NoItems, ListAt, NoListed, item_of, boxes, flags, inputs, heights, outputs};
 
 use crate::fields::{choice, id, number32, number64};
 use forms::text::{ends, inside};
-use words::ids::{Id, put_id};
+use words::ids::put_id;
+use words::rows::put_words;
 
 // The kinds of records.
 #[derive(Clone, Copy)]
@@ -30,50 +29,32 @@ fn width(kind: Records) -> usize
     }
 }
 
-// Each record is written into the free part of `out`, from `k` on.
+// Each record is written to the front of `out`, the part of the list's words that is free.
 
 // A box id.
-fn put_box<'a>(
-    rest: &'a [u8],
-    gap: bool,
-    depth: usize,
-    out: &mut [u64],
-    k: usize,
-) -> Option<&'a [u8]>
-    requires { k + 4 ≤ length out.old }
-    ensures { MatchOption result (NoItem boxes rest.now gap depth) (λ r. ItemAt boxes rest.now gap depth k out.old out.new r.now) }
+fn put_box<'a>(rest: &'a [u8], gap: bool, depth: usize, out: &mut [u64]) -> Option<&'a [u8]>
+    requires { 4 ≤ length out.old }
+    ensures { MatchOption result (NoItem boxes rest.now gap depth) (λ r. ItemAt boxes rest.now gap depth 0 out.old out.new r.now) }
 {
     let (id, rest) = id(rest, gap)?;
-    put_id(out, k, id);
+    put_id(out, 0, id);
     Some(rest)
 }
 
 // A flag: `set` or `not`.
-fn put_flag<'a>(
-    rest: &'a [u8],
-    gap: bool,
-    depth: usize,
-    out: &mut [u64],
-    k: usize,
-) -> Option<&'a [u8]>
-    requires { k + 1 ≤ length out.old }
-    ensures { MatchOption result (NoItem flags rest.now gap depth) (λ r. ItemAt flags rest.now gap depth k out.old out.new r.now) }
+fn put_flag<'a>(rest: &'a [u8], gap: bool, depth: usize, out: &mut [u64]) -> Option<&'a [u8]>
+    requires { 1 ≤ length out.old }
+    ensures { MatchOption result (NoItem flags rest.now gap depth) (λ r. ItemAt flags rest.now gap depth 0 out.old out.new r.now) }
 {
     let (flag, rest) = choice(rest, gap, b"set", 1, b"not", 0)?;
-    out[k] = flag;
+    out[0] = flag;
     Some(rest)
 }
 
 // An input of a submission: `(BOX set|not)`.
-fn put_input<'a>(
-    rest: &'a [u8],
-    gap: bool,
-    depth: usize,
-    out: &mut [u64],
-    k: usize,
-) -> Option<&'a [u8]>
-    requires { k + 5 ≤ length out.old }
-    ensures { MatchOption result (NoItem inputs rest.now gap depth) (λ r. ItemAt inputs rest.now gap depth k out.old out.new r.now) }
+fn put_input<'a>(rest: &'a [u8], gap: bool, depth: usize, out: &mut [u64]) -> Option<&'a [u8]>
+    requires { 5 ≤ length out.old }
+    ensures { MatchOption result (NoItem inputs rest.now gap depth) (λ r. ItemAt inputs rest.now gap depth 0 out.old out.new r.now) }
 {
     let (inside, behind) = inside(rest, gap, depth)?;
     let (id, rest) = id(inside, true)?;
@@ -81,21 +62,14 @@ fn put_input<'a>(
     if !ends(rest, false) {
         return None;
     }
-    put_id(out, k, id);
-    out[k + 4] = flag;
+    put_words(out, 0, &[id.a, id.b, id.c, id.d, flag]);
     Some(behind)
 }
 
 // An output of a return: `(BOX HEIGHT)`.
-fn put_height<'a>(
-    rest: &'a [u8],
-    gap: bool,
-    depth: usize,
-    out: &mut [u64],
-    k: usize,
-) -> Option<&'a [u8]>
-    requires { k + 5 ≤ length out.old }
-    ensures { MatchOption result (NoItem heights rest.now gap depth) (λ r. ItemAt heights rest.now gap depth k out.old out.new r.now) }
+fn put_height<'a>(rest: &'a [u8], gap: bool, depth: usize, out: &mut [u64]) -> Option<&'a [u8]>
+    requires { 5 ≤ length out.old }
+    ensures { MatchOption result (NoItem heights rest.now gap depth) (λ r. ItemAt heights rest.now gap depth 0 out.old out.new r.now) }
 {
     let (inside, behind) = inside(rest, gap, depth)?;
     let (id, rest) = id(inside, true)?;
@@ -103,32 +77,14 @@ fn put_height<'a>(
     if !ends(rest, false) {
         return None;
     }
-    put_id(out, k, id);
-    out[k + 4] = height as u64;
+    put_words(out, 0, &[id.a, id.b, id.c, id.d, height as u64]);
     Some(behind)
 }
 
-// The words of an output.
-fn put_seven(out: &mut [u64], k: usize, x: Id, amount: u64, fee: u64, height: u64)
-    requires { k + 7 ≤ length out.old }
-    ensures { out.new ≡ stored out.old k (id_words x ++ (amount ∷ fee ∷ height ∷ [])) }
-{
-    put_id(out, k, x);
-    out[k + 4] = amount;
-    out[k + 5] = fee;
-    out[k + 6] = height;
-}
-
 // An output of a submission: `(BOX VALUE fee|pay HEIGHT)`.
-fn put_output<'a>(
-    rest: &'a [u8],
-    gap: bool,
-    depth: usize,
-    out: &mut [u64],
-    k: usize,
-) -> Option<&'a [u8]>
-    requires { k + 7 ≤ length out.old }
-    ensures { MatchOption result (NoItem outputs rest.now gap depth) (λ r. ItemAt outputs rest.now gap depth k out.old out.new r.now) }
+fn put_output<'a>(rest: &'a [u8], gap: bool, depth: usize, out: &mut [u64]) -> Option<&'a [u8]>
+    requires { 7 ≤ length out.old }
+    ensures { MatchOption result (NoItem outputs rest.now gap depth) (λ r. ItemAt outputs rest.now gap depth 0 out.old out.new r.now) }
 {
     let (inside, behind) = inside(rest, gap, depth)?;
     let (id, rest) = id(inside, true)?;
@@ -138,7 +94,11 @@ fn put_output<'a>(
     if !ends(rest, false) {
         return None;
     }
-    put_seven(out, k, id, amount, fee, height as u64);
+    put_words(
+        out,
+        0,
+        &[id.a, id.b, id.c, id.d, amount, fee, height as u64],
+    );
     Some(behind)
 }
 
@@ -149,21 +109,21 @@ fn put_item<'a>(
     depth: usize,
     kind: Records,
     out: &mut [u64],
-    k: usize,
 ) -> Option<&'a [u8]>
-    requires { k + (item_of kind).width ≤ length out.old }
-    ensures { MatchOption result (NoItem (item_of kind) rest.now gap depth) (λ r. ItemAt (item_of kind) rest.now gap depth k out.old out.new r.now) }
+    requires { (item_of kind).width ≤ length out.old }
+    ensures { MatchOption result (NoItem (item_of kind) rest.now gap depth) (λ r. ItemAt (item_of kind) rest.now gap depth 0 out.old out.new r.now) }
 {
     match kind {
-        Records::Boxes => put_box(rest, gap, depth, out, k),
-        Records::Flags => put_flag(rest, gap, depth, out, k),
-        Records::Inputs => put_input(rest, gap, depth, out, k),
-        Records::Heights => put_height(rest, gap, depth, out, k),
-        Records::Outputs => put_output(rest, gap, depth, out, k),
+        Records::Boxes => put_box(rest, gap, depth, out),
+        Records::Flags => put_flag(rest, gap, depth, out),
+        Records::Inputs => put_input(rest, gap, depth, out),
+        Records::Heights => put_height(rest, gap, depth, out),
+        Records::Outputs => put_output(rest, gap, depth, out),
     }
 }
 
-// All records of a list, from behind its opening bracket: the words that were written.
+// All records of a list, from behind its opening bracket: the words that were written. `k` is where the free part begins; how many records come is known
+// only at the list's end, so that a `for` is no plainer.
 fn all_items(inside: &[u8], depth: usize, kind: Records, out: &mut [u64]) -> Option<usize>
     ensures { MatchOption result (NoItems (item_of kind) inside.now depth (length out.old)) (λ n. ItemsAt (item_of kind) inside.now depth out.old out.new n) }
 {
@@ -175,7 +135,7 @@ fn all_items(inside: &[u8], depth: usize, kind: Records, out: &mut [u64]) -> Opt
         if out.len() - k < w {
             return None;
         }
-        rest = put_item(rest, gap, depth, kind, out, k)?;
+        rest = put_item(rest, gap, depth, kind, &mut out[k..])?;
         gap = false;
         k += w;
     }

@@ -28,6 +28,9 @@ prints-then {t} {u} {x} {y} {z} {at} {k} {r} h p q =
       wrote = wrote_then at x t y u z (omega (arith, p.ends)) p.wrote (subst (λ (n : ℕ). z ≡ over n u y) p.ends q.wrote);
     }
 
+pub prints-to : {t x y z : List ℕ} {at r : ℕ} → z ≡ y → Prints t at x y r → Prints t at x z r
+prints-to {t} {x} {y} {z} {at} {r} e p = subst (λ (w : List ℕ). Prints t at x w r) (sym e) p
+
 -- a line printed from the start: the bytes up to the place returned are the text, and they fit
 pub line-is : {t x y : List ℕ} {r : ℕ} → Prints t 0 x y r → take r y ≡ t
 line-is {t} {x} p = rw (p.ends, p.wrote) (take_at t (drop (0 + length t) x) (0 + length t) (omega arith))
@@ -97,8 +100,8 @@ module _ {A : Type 0} (f : A → List ℕ) (w : ℕ) (short : (x : A) → length
       let h : length (drop i xs) ≤ length xs = omega (arith, length-drop i xs) in
       let m : w * length (drop i xs) ≤ w * length xs = mul-le-mul_left w h in omega (arith, flat-long (drop i xs))
 
-pub ids-long : (l : List ℕ) (n i : ℕ) → length (flat spaced (drop i (ids_to 4 l n))) ≤ 65 * n
-ids-long l n i = rw ((ids 4).len l n) at (rest-long spaced 65 (λ x. omega (arith, id-long x)) (ids_to 4 l n) i)
+pub ids-long : (w : ℕ) (l : List ℕ) (n i : ℕ) → length (flat spaced (drop i (ids_to w l n))) ≤ 65 * n
+ids-long w l n i = rw ((ids w).len l n) at (rest-long spaced 65 (λ x. omega (arith, id-long x)) (ids_to w l n) i)
 
 pub rows_long : (l : List ℕ) (n : ℕ) → length (flat row_text (rows_of l n)) ≤ 109 * n
 rows_long l n = rw (rows.len l n) at (flat-long row_text 109 row-long (rows_of l n))
@@ -123,21 +126,21 @@ id_same x = simp join_is
 pub prints-id : {at r : ℕ} {y z : List ℕ} (x : Id) → Prints (id_text (id_number x)) at y z r → Prints (id_text (id_of x)) at y z r
 prints-id x p = rw (id_same x) at p
 
-pub parted-none : (l : List ℕ) (n at : ℕ) (x : List ℕ) → n ≡ 0 → Prints (parted (ids_to 4 l n)) at x x at
+pub parted-none : (w : ℕ) (l : List ℕ) (n at : ℕ) (x : List ℕ) → n ≡ 0 → Prints (parted (ids_to w l n)) at x x at
 unfolding parted ids_to
-parted-none l n at x e = rw e (prints-none at x)
+parted-none w l n at x e = rw e (prints-none at x)
 
-pub parted-more : (l : List ℕ) (n : ℕ) → (n ≡ 0 → ⊥) → id_text (id_at l 0) ++ flat spaced (drop 1 (ids_to 4 l n)) ≡ parted (ids_to 4 l n)
+pub parted-more : (w : ℕ) (l : List ℕ) (n : ℕ) → (n ≡ 0 → ⊥) → id_text (id_at l (0 * w)) ++ flat spaced (drop 1 (ids_to w l n)) ≡ parted (ids_to w l n)
 unfolding parted ids_to
-parted-more l zero h = absurd (h refl)
-parted-more l (suc n) h = refl
+parted-more w l zero h = absurd (h refl)
+parted-more w l (suc n) h = refl
 
-pub parted-long : (l : List ℕ) (n : ℕ) → length (parted (ids_to 4 l n)) ≤ 64 + 65 * n
+pub parted-long : (w : ℕ) (l : List ℕ) (n : ℕ) → length (parted (ids_to w l n)) ≤ 64 + 65 * n
 unfolding parted ids_to
-parted-long l zero = omega arith
-parted-long l (suc n) =
-    let e = parted-more l (suc n) (λ q. absurd (omega (arith, q))) in
-    omega (arith, ap length e, length-append (id_text (id_at l 0)) (flat spaced (drop 1 (ids_to 4 l (suc n)))), id-long (id_at l 0), ids-long l (suc n) 1)
+parted-long w l zero = omega arith
+parted-long w l (suc n) =
+    let e = parted-more w l (suc n) (λ q. absurd (omega (arith, q))) in
+    omega (arith, ap length e, length-append (id_text (id_at l (0 * w))) (flat spaced (drop 1 (ids_to w l (suc n)))), id-long (id_at l (0 * w)), ids-long w l (suc n) 1)
 
 row-at : (l : List ℕ) (i : ℕ) → row_at l i ≡ row_of (id_at l (i * 6)) (get_or l (i * 6 + 4) 0) (get_or l (i * 6 + 5) 0)
 unfolding row_at rec_at row_dec id_at

@@ -11,12 +11,12 @@ use Rattle.forms.specs.Nums.{decimal, is_digits, digit_of}
 use Rattle.lines.specs.declared.items.Records.TheVariants.{Boxes, Flags, Inputs, Heights, Outputs}
 use Rattle.lines.specs.declared.read.Form.{Form}
 use Rattle.lines.specs.declared.read.Form.TheVariants.{Pool, Tx, Return, Block, Invalidate, Open, Next, Answer, Rebroadcast, List, Top, Len, Contains, Spending, Fee, Wait, Histogram, Charges, Written}
-use Rattle.lines.specs.Fields.{Rest, gone, here, word_of, past_word, list_of, ended, value, past, is_value, number64, number32, ids, same, choices, optional, w_none, judged, past_verdict}
+use Rattle.lines.specs.Fields.{Rest, gone, here, word_of, past_word, list_of, ended, value, past, is_value, number64, number32, ids, same, optional, w_none, judged, past_verdict}
 use Rattle.lines.specs.Items.{w_fee, item_of, words_in}
 use Rattle.lines.specs.Blocks.{transactions, inputs_in, txs_count, inputs_count, past_block}
 use Rattle.lines.specs.Forms.{is_read, whole, plain_of, invalidate_of, open_of, top_of, contains_of, spending_of, fee_of, wait_of, histogram_of, w_byte, w_cycle, strategies, pool_of, w_local, w_pool, w_tx, w_return, w_block, w_invalidate, w_open, w_next, w_answer, w_rebroadcast, w_list, w_top, w_len, w_contains, w_spending, w_wait, w_histogram, w_charges, w_written, tx_lists, tx_of, return_of, return_lists, block_of, answer_of, rebroadcast_of, measure_of, query_of, change_of, worded_of, form_of, tx_one, tx_two, return_one, return_two, block_one, block_two, answer_one, rebroadcast_one, one_of, two_of}
 use Rattle.spelling.specs.Spelling.{lower, lowered, plain, tidied}
-use Rattle.spelling.specs.ReadBack.{tidied_in, same_numbers, same-ids, same-either, same-choices, same-optional, same_item, same_true, plain-none, Keeps, keeps-field, keeps-items, keeps-verdict, keeps-block}
+use Rattle.spelling.specs.ReadBack.{tidied_in, same_numbers, same-ids, same-either, same-optional, same_item, same_true, plain-none, Keeps, keeps-field, keeps-items, keeps-verdict, keeps-block}
 
 -- what a line is read to: the form and the words of its two lists
 pub record Out : Type 0 where

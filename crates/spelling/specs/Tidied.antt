@@ -1,8 +1,8 @@
 -- A line of a file, tidied: document 02, "reads such a file and writes each form in a single spelling .. Unreadable lines and line ends are copied unchanged".
 -- Readable is what poolrun reads, whose lists have room for 14,336 words.
-use Rattle.std.specs.Prelude.{ℕ, ◌+◌, ◌≤◌, ◌<◌, ◌≡◌, Bool, length, get_or, drop, eqb, not}
+use Rattle.std.specs.Prelude.{ℕ, ◌+◌, ◌≤◌, ◌<◌, ◌≡◌, Bool, length, get_or, drop}
 use Rattle.std.proofs.Math.Path.{refl, sym, subst}
-use Rattle.std.proofs.Common.{ap, ap₂, ◌∙◌, arith, add-one, drop_of_length-le, drop-cons, eq-eqb, ne_eqb}
+use Rattle.std.proofs.Common.{ap, ap₂, ◌∙◌, arith, add-one, drop_of_length-le, drop-cons, ne_eqb}
 use Rattle.std.proofs.Math.Bool.{true, false}
 use mathlib.Core.List.{List, [], ◌∷◌, ◌++◌, append_assoc, append-nil}
 use Rattle.words.specs.Lists.{pick}
@@ -12,6 +12,8 @@ use Rattle.forms.specs.Nums.{Prints}
 use Rattle.replies.specs.ReplyLaws.{prints-none, prints-then, Printing, printing-none}
 use Rattle.lines.specs.declared.read.Form.{Form}
 use Rattle.lines.specs.Forms.{is_read, form_of, ReadAt}
+use Rattle.spelling.specs.declared.Before.{Before}
+use Rattle.spelling.specs.declared.Before.TheVariants.{Start, Member, Space}
 use Rattle.spelling.specs.declared.Place.{Place}
 use Rattle.spelling.specs.Spelling.{tidied, text, spelled, lower, goes, leads, owes, put, joins, squeezed}
 use Rattle.spelling.specs.SqueezeLaws.{due, due-le, none-due, put-length, at-space, at-lead, at_byte, not-longer, line-tidied, tidied-twice, squeezed-line}
@@ -52,17 +54,32 @@ tidied-long h (kept n) = refl
 
 -- ---- what the functions promise
 
-pub record Spaces (p r : Place) : Type 0 where
-  pub at : r.at ≡ p.at
-  pub tight : r.tight ≡ false
-  pub owed : r.owed ≡ pick p.tight true p.owed
+-- a byte of a member stands right before the next byte
+abbrev pub is_tight : Before → Bool
+is_tight Start = false
+is_tight Member = true
+is_tight Space = false
+
+-- a space is owed to the next member
+abbrev pub is_owed : Before → Bool
+is_owed Start = false
+is_owed Member = false
+is_owed Space = true
+
+pub record Spaces (b r : Before) : Type 0 where
+  pub tight : is_tight r ≡ false
+  pub owed : is_owed r ≡ pick (is_tight b) true (is_owed b)
+
+-- what is left from byte i of l on, squeezed
+abbrev pub ahead : List ℕ → ℕ → Place → List ℕ
+ahead l i p = squeezed (is_tight p.before) (is_owed p.before) (drop i l)
 
 -- the byte at i of l: `text` is printed
 pub record Takes (l : List ℕ) (i : ℕ) (x : List ℕ) (p : Place) (y : List ℕ) (r : Place) : Type 0 where
   pub text : List ℕ
-  pub is : squeezed p.tight p.owed (drop i l) ≡ text ++ squeezed r.tight r.owed (drop (i + 1) l)
+  pub is : ahead l i p ≡ text ++ ahead l (i + 1) r
   pub prints : Prints text p.at x y r.at
-  pub room : r.at + due r.owed ≤ p.at + due p.owed + 1
+  pub room : r.at + due (is_owed r.before) ≤ p.at + due (is_owed p.before) + 1
 
 pub record Tidies (l x y : List ℕ) (r : ℕ) : Type 0 where
   pub text : List ℕ
@@ -75,47 +92,47 @@ module _ (l : List ℕ) (i : ℕ) (x : List ℕ) (p : Place) (h : i < length l) 
   here-is : (t o : Bool) → squeezed t o (drop i l) ≡ squeezed t o (get_or l i 0 ∷ drop (i + 1) l)
   here-is t o = ap (squeezed t o) (drop-cons l i 0 h ∙ ap (λ (n : ℕ). get_or l i 0 ∷ drop n l) (sym (add-one i)))
 
-  pub take-space : (r : Place) → get_or l i 0 ≡ 32 → Spaces p r → Takes l i x p x r
-  take-space r e s =
+  pub take-space : (b : Before) → get_or l i 0 ≡ 32 → Spaces p.before b → Takes l i x p x (record { at = p.at; before = b })
+  take-space b e s =
       record {
         text = [];
-        is = here-is p.tight p.owed ∙ at-space p.tight p.owed (get_or l i 0) (drop (i + 1) l) e ∙ ap₂ (λ (t o : Bool). squeezed t o (drop (i + 1) l)) (sym s.tight) (sym s.owed);
-        prints = subst (λ (n : ℕ). Prints [] p.at x x n) (sym s.at) (prints-none p.at x);
-        room = omega (arith, due-le r.owed, s.at);
+        is = here-is (is_tight p.before) (is_owed p.before) ∙ at-space (is_tight p.before) (is_owed p.before) (get_or l i 0) (drop (i + 1) l) e ∙ ap₂ (λ (t o : Bool). squeezed t o (drop (i + 1) l)) (sym s.tight) (sym s.owed);
+        prints = prints-none p.at x;
+        room = omega (arith, due-le (is_owed b));
       }
 
-  pub take-lead : (get_or l i 0 ≡ 32 → ⊥) → leads p.tight (get_or l i 0) (drop (i + 1) l) ≡ true → Takes l i x p x p
+  pub take-lead : (get_or l i 0 ≡ 32 → ⊥) → leads (is_tight p.before) (get_or l i 0) (drop (i + 1) l) ≡ true → Takes l i x p x p
   take-lead n e =
       record {
         text = [];
-        is = here-is p.tight p.owed ∙ at-lead p.tight p.owed (get_or l i 0) (drop (i + 1) l) (ne_eqb _ 32 n) e;
+        is = here-is (is_tight p.before) (is_owed p.before) ∙ at-lead (is_tight p.before) (is_owed p.before) (get_or l i 0) (drop (i + 1) l) (ne_eqb _ 32 n) e;
         prints = prints-none p.at x;
         room = omega arith;
       }
 
-  pub take_put : (y : List ℕ) (r : Place) → (get_or l i 0 ≡ 32 → ⊥) → leads p.tight (get_or l i 0) (drop (i + 1) l) ≡ false → Prints (put p.owed (get_or l i 0)) p.at x y r.at → r.tight ≡ joins (get_or l i 0) → r.owed ≡ false → Takes l i x p y r
+  pub take_put : (y : List ℕ) (r : Place) → (get_or l i 0 ≡ 32 → ⊥) → leads (is_tight p.before) (get_or l i 0) (drop (i + 1) l) ≡ false → Prints (put (is_owed p.before) (get_or l i 0)) p.at x y r.at
+      → is_tight r.before ≡ joins (get_or l i 0) → is_owed r.before ≡ false → Takes l i x p y r
   take_put y r n e w t o =
       record {
-        text = put p.owed (get_or l i 0);
-        is = here-is p.tight p.owed ∙ at_byte p.tight p.owed (get_or l i 0) (drop (i + 1) l) (ne_eqb _ 32 n) e
-            ∙ ap₂ (λ (a b : Bool). put p.owed (get_or l i 0) ++ squeezed a b (drop (i + 1) l)) (sym t) (sym o);
+        text = put (is_owed p.before) (get_or l i 0);
+        is = here-is (is_tight p.before) (is_owed p.before) ∙ at_byte (is_tight p.before) (is_owed p.before) (get_or l i 0) (drop (i + 1) l) (ne_eqb _ 32 n) e
+            ∙ ap₂ (λ (a b : Bool). put (is_owed p.before) (get_or l i 0) ++ squeezed a b (drop (i + 1) l)) (sym t) (sym o);
         prints = w;
-        room = omega (arith, w.ends, put-length p.owed (get_or l i 0), ap due o ∙ none-due);
+        room = omega (arith, w.ends, put-length (is_owed p.before) (get_or l i 0), ap due o ∙ none-due);
       }
 
 -- what is printed and what is left are the whole
 pub squeeze-start : (l x : List ℕ) → Printing (squeezed false false l) (squeezed false false (drop 0 l)) 0 x x 0
 squeeze-start l x = printing-none (squeezed false false l) 0 x
 
-pub squeeze-turn : {w x y z : List ℕ} (l : List ℕ) (i : ℕ) (p r : Place) → p.at ≤ length x → Printing w (squeezed p.tight p.owed (drop i l)) 0 x y p.at → Takes l i y p z r
-    → Printing w (squeezed r.tight r.owed (drop (i + 1) l)) 0 x z r.at
+pub squeeze-turn : {w x y z : List ℕ} (l : List ℕ) (i : ℕ) (p r : Place) → p.at ≤ length x → Printing w (ahead l i p) 0 x y p.at → Takes l i y p z r → Printing w (ahead l (i + 1) r) 0 x z r.at
 squeeze-turn l i p r h g k =
     record { text = g.text ++ k.text; joins = append_assoc g.text k.text _ ∙ ap (λ (s : List ℕ). g.text ++ s) (sym k.is) ∙ g.joins; prints = prints-then h g.prints k.prints }
 
-pub squeeze-end : {w x y : List ℕ} (l : List ℕ) (i : ℕ) (p : Place) → length l ≤ i → Printing w (squeezed p.tight p.owed (drop i l)) 0 x y p.at → Prints w 0 x y p.at
+pub squeeze-end : {w x y : List ℕ} (l : List ℕ) (i : ℕ) (p : Place) → length l ≤ i → Printing w (ahead l i p) 0 x y p.at → Prints w 0 x y p.at
 unfolding squeezed
 squeeze-end {w} {x} {y} l i p h g =
-    let e : g.text ≡ w = sym (append-nil g.text) ∙ ap (λ (s : List ℕ). g.text ++ squeezed p.tight p.owed s) (sym (drop_of_length-le l {i = i} h)) ∙ g.joins in
+    let e : g.text ≡ w = sym (append-nil g.text) ∙ ap (λ (s : List ℕ). g.text ++ squeezed (is_tight p.before) (is_owed p.before) s) (sym (drop_of_length-le l {i = i} h)) ∙ g.joins in
     subst (λ (s : List ℕ). Prints s 0 x y p.at) e g.prints
 
 -- the answers
@@ -139,23 +156,7 @@ module _ (l x y : List ℕ) (k : ℕ) where
 
 -- ---- tests of one byte
 
-not-pick : (b : Bool) → not b ≡ pick b false true
-not-pick true = refl
-not-pick false = refl
-
 module _ (c : ℕ) where
-  pub joins-is : not (eqb c 40) ≡ joins c
-  unfolding joins
-  joins-is = not-pick (eqb c 40)
-
-  pub owes-yes : (o : Bool) → o ≡ true → not (eqb c 41) ≡ owes o c
-  unfolding owes
-  owes-yes o e = not-pick (eqb c 41) ∙ sym (ap (λ (a : Bool). pick a (pick (eqb c 41) false true) false) e)
-
-  pub owes-no : (o : Bool) → o ≡ false → o ≡ owes o c
-  unfolding owes
-  owes-no o e = e ∙ sym (ap (λ (a : Bool). pick a (pick (eqb c 41) false true) false) e)
-
   pub put_two : (o : Bool) → owes o c ≡ true → 32 ∷ lower c ∷ [] ≡ put o c
   unfolding put
   put_two o e = sym (ap (λ (b : Bool). pick b (32 ∷ lower c ∷ []) (lower c ∷ [])) e)
@@ -168,19 +169,6 @@ module _ (c : ℕ) where
   unfolding owes due
   owed-due true e = refl
   owed-due false e = true-false e refl
-
-module _ (t : Bool) (c : ℕ) (s : List ℕ) where
-  pub lead-tight : t ≡ true → false ≡ leads t c s
-  unfolding leads
-  lead-tight e = sym (ap (λ (b : Bool). pick b false (pick (eqb c 48) (goes s) false)) e)
-
-  pub lead-other : t ≡ false → (c ≡ 48 → ⊥) → false ≡ leads t c s
-  unfolding leads
-  lead-other e f = sym (ap₂ (λ (a b : Bool). pick a false (pick b (goes s) false)) e (ne_eqb c 48 f))
-
-  pub lead_zero : t ≡ false → c ≡ 48 → goes s ≡ leads t c s
-  unfolding leads
-  lead_zero e f = sym (ap₂ (λ (a b : Bool). pick a false (pick b (goes s) false)) e (eq-eqb c 48 f))
 
 pub goes_at : (l : List ℕ) (j : ℕ) → j < length l → is_word (get_or l j 0) ≡ goes (drop j l)
 unfolding goes

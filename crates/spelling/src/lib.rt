@@ -7,12 +7,13 @@ ghost use Rattle.forms.specs.Nums.{Prints};
 ghost use Rattle.lines.specs.Forms.{is_read};
 ghost use Rattle.spelling.specs.Spelling.{lower, leads, owes, joins, put, squeezed};
 ghost use Rattle.spelling.specs.SqueezeLaws.{due};
-ghost use Rattle.spelling.specs.Tidied.{Spaces, Takes, Tidies};
+ghost use Rattle.spelling.specs.Tidied.{is_tight, is_owed, Spaces, Takes, Tidies};
 
 use forms::text::{is_word, read_line};
 use lines::read::{Form, read_form};
 use replies::pieces::{byte, text};
 
+#[tactic(auto, unfolding(crate::specs::Spelling::lower, forms::specs::Text::within))]
 fn lower(c: u8) -> u8
     ensures { result ≡ lower c }
 {
@@ -22,12 +23,49 @@ fn lower(c: u8) -> u8
     }
 }
 
-// Whether the byte at `i` is a zero in front of a word. `tight`: a byte of a member stands right before it.
-fn leads(line: &[u8], i: usize, tight: bool) -> bool
+// What the next byte stands behind, of the bytes that are kept.
+#[derive(Clone, Copy)]
+enum Before {
+    // nothing yet, or an opening bracket
+    Start,
+    // a byte of a member
+    Member,
+    // a member and a space, which is owed to the next member
+    Space,
+}
+
+impl Before {
+    fn is_tight(self) -> bool
+        ensures { result ≡ is_tight self }
+    {
+        matches!(self, Before::Member)
+    }
+
+    fn is_owed(self) -> bool
+        ensures { result ≡ is_owed self }
+    {
+        matches!(self, Before::Space)
+    }
+
+    // Behind a space more.
+    fn spaced(self) -> Before
+        ensures { Spaces self result }
+    {
+        match self {
+            Before::Start => Before::Start,
+            Before::Member => Before::Space,
+            Before::Space => Before::Space,
+        }
+    }
+}
+
+// Whether the byte at `i` is a zero in front of a word.
+#[tactic(auto, using(crate::specs::Tidied::goes_at, crate::specs::Tidied::goes_end), unfolding(crate::specs::Spelling::leads))]
+fn leads(line: &[u8], i: usize, before: Before) -> bool
     requires { i < length line.now }
-    ensures { result ≡ leads tight (get_or line.now i 0) (drop (i + 1) line.now) }
+    ensures { result ≡ leads (is_tight before) (get_or line.now i 0) (drop (i + 1) line.now) }
 {
-    if tight {
+    if before.is_tight() {
         return false;
     }
     if line[i] != b'0' {
@@ -40,74 +78,62 @@ fn leads(line: &[u8], i: usize, tight: bool) -> bool
     false
 }
 
-fn owes(owed: bool, c: u8) -> bool
-    ensures { result ≡ owes owed c }
+#[tactic(auto, unfolding(crate::specs::Spelling::owes))]
+fn owes(before: Before, c: u8) -> bool
+    ensures { result ≡ owes (is_owed before) c }
 {
-    owed && c != b')'
+    before.is_owed() && c != b')'
 }
 
-fn joins(c: u8) -> bool
-    ensures { result ≡ joins c }
+// What stands behind a byte that is kept: no member behind an opening bracket.
+#[tactic(auto, unfolding(crate::specs::Spelling::joins))]
+fn kept(c: u8) -> Before
+    ensures { (is_tight result ≡ joins c) × (is_owed result ≡ false) }
 {
-    c != b'('
+    if c == b'(' {
+        return Before::Start;
+    }
+    Before::Member
 }
 
 // A byte, behind the space that is owed to it.
-fn put(out: &mut [u8], at: usize, owed: bool, c: u8) -> usize
-    requires { at + 1 + due owed ≤ length out.old }
-    ensures { Prints (put owed c) at out.old out.new result }
+fn put(out: &mut [u8], at: usize, before: Before, c: u8) -> usize
+    requires { at + 1 + due (is_owed before) ≤ length out.old }
+    ensures { Prints (put (is_owed before) c) at out.old out.new result }
 {
-    if owes(owed, c) {
+    if owes(before, c) {
         let k = byte(out, at, b' ');
         return byte(out, k, lower(c));
     }
     byte(out, at, lower(c))
 }
 
-// Where the next byte goes, whether a byte of a member was read last, and whether a space is owed to the next member.
+// Where the next byte goes, and what it stands behind.
 #[derive(Clone, Copy)]
 struct Place {
     at: usize,
-    tight: bool,
-    owed: bool,
-}
-
-// Behind a space.
-fn spaced(p: Place) -> Place
-    ensures { Spaces p result }
-{
-    if p.tight {
-        return Place {
-            at: p.at,
-            tight: false,
-            owed: true,
-        };
-    }
-    Place {
-        at: p.at,
-        tight: false,
-        owed: p.owed,
-    }
+    before: Before,
 }
 
 // The byte at `i`.
 fn squeeze_byte(line: &[u8], i: usize, out: &mut [u8], p: Place) -> Place
-    requires { (i < length line.now) × (p.at + 1 + due p.owed ≤ length out.old) }
+    requires { (i < length line.now) × (p.at + 1 + due (is_owed p.before) ≤ length out.old) }
     ensures { Takes line.now i out.old p out.new result }
 {
     let c = line[i];
     if c == b' ' {
-        return spaced(p);
+        return Place {
+            at: p.at,
+            before: p.before.spaced(),
+        };
     }
-    if leads(line, i, p.tight) {
+    if leads(line, i, p.before) {
         return p;
     }
-    let k = p.at;
-    let at = put(out, k, p.owed, c);
+    let at = put(out, p.at, p.before, c);
     Place {
         at,
-        tight: joins(c),
-        owed: false,
+        before: kept(c),
     }
 }
 
@@ -118,8 +144,7 @@ fn squeeze(line: &[u8], out: &mut [u8]) -> usize
 {
     let mut p = Place {
         at: 0,
-        tight: false,
-        owed: false,
+        before: Before::Start,
     };
     for i in 0..line.len() {
         p = squeeze_byte(line, i, out, p);

@@ -27,6 +27,8 @@ pub trait Sink {
         ensures { Written (stand self.old) (stand self.new) bytes.now };
 }
 
+// A reader, and a writer, with the first error of each. One struct for both, with one `new` and one `end`, would be no plainer: what is known of a reader and
+// of a writer are members of different traits.
 #[derive(Drop)]
 pub struct Input<R> {
     from: R,

@@ -2,7 +2,6 @@
 -- readable one what is held is written as it is. That the whole input so comes out tidied is `served-file` (Whole).
 use Rattle.std.specs.Prelude.{ℕ, ◌<◌, ◌≤◌, ◌≡◌, Bool, true, false, List, [], ◌∷◌, ◌++◌, length, take}
 use Rattle.spelling.specs.Tidied.{Tidied}
-use Rattle.tidy.specs.declared.Progress.{Progress}
 
 -- ---- what is held between two bytes
 
@@ -12,9 +11,9 @@ pub record State : Type 0 where
   pub long : Bool
   pub over : Bool
 
--- as the program has it: of its line buffer the first `len` bytes are held
-abbrev pub state_of : List ℕ → Progress → State
-state_of l p = record { line = take p.len l; long = p.long; over = p.over }
+-- as the program has it: of its line buffer the first n bytes are held
+abbrev pub state_of : List ℕ → ℕ → Bool → Bool → State
+state_of l n long over = record { line = take n l; long = long; over = over }
 
 abbrev pub at_start : State
 at_start = record { line = []; long = false; over = false }

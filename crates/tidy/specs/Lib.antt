@@ -1,3 +1,4 @@
 pub mod Input
+pub mod Tidier
 pub mod Loop
 pub mod Whole

@@ -1,6 +1,6 @@
 -- What the functions of tidy's loop promise, over the definitions of Input, and the laws that their proofs cite.
 use Rattle.std.specs.Prelude.{ℕ, suc, ◌+◌, ◌-◌, ◌≤◌, ◌<◌, min, ◌≡◌, refl, Bool, true, false, List, [], ◌∷◌, ◌++◌, length, take, set, get_or, leb, None}
-use Rattle.std.proofs.Common.{sym, ap, subst, ◌∙◌, true≢false, append_assoc, append-nil, add-one, arith, length-take, length-append, length-set, take_all, take-suc, take-suc-set, leb-true, leb-false}
+use Rattle.std.proofs.Common.{sym, ap, subst, ◌∙◌, true≢false, append_assoc, append-nil, add-one, arith, length-take, length-append, take_all, take-suc, take-suc-set, leb-true, leb-false}
 use Rattle.words.specs.Sums.{cap}
 use Rattle.forms.specs.Nums.{Prints}
 use Rattle.replies.specs.ReplyLaws.{line-is}
@@ -9,9 +9,8 @@ use Rattle.spelling.specs.Tidied.{Tidied, Tidies, tidied-short}
 use Rattle.std.specs.Io.KnownBytes.{IsAtEnd}
 use Rattle.streams.specs.Laws.{written-none, written-then, taken-none, taken-then}
 use Rattle.streams.specs.Streams.{Stand, Written, Taken, Brought}
-use Rattle.tidy.specs.declared.Progress.{Progress}
 use Rattle.tidy.specs.Input as I
-use Rattle.tidy.specs.Input.{State, state_of, at_start, grown, spilled, begun, Ending, whole, rest, Step, adds, spills, ends, Fed, none, more, ended, Finished, last, Turn, some, Served, unread, reads}
+use Rattle.tidy.specs.Input.{State, state_of, grown, spilled, begun, Ending, whole, rest, Step, adds, spills, ends, Fed, none, more, ended, Finished, last, Turn, some, Served, unread, reads}
 
 -- ---- sizes: a line that is too long by one byte, and its newline
 
@@ -35,11 +34,6 @@ pub record Whole (s : State) (bytes : List ℕ) : Type 0 where
   pub text : List ℕ
   pub is : Ending s text
   pub line : bytes ≡ text ++ (10 ∷ [])
-
--- the first n bytes of x, or with a newline behind them
-pub record Closes (newline : Bool) (x : List ℕ) (n : ℕ) (y : List ℕ) (r : ℕ) : Type 0 where
-  pub line : newline ≡ true → (y ≡ set x n 10) × (r ≡ n + 1)
-  pub last : newline ≡ false → (y ≡ x) × (r ≡ n)
 
 -- what was written stands at the front of the buffer `out`; o and o' are where the output stands before and behind it
 pub record Steps (b : ℕ) (s s' : State) (out : List ℕ) (o o' : Stand) : Type 0 where
@@ -85,13 +79,6 @@ pub record Serves (room : ℕ) (s s' : State) (i i' o o' : Stand) : Type 0 where
 
 -- ---- a line
 
--- a part from the front has as many as it says
-pub front-is : (n : ℕ) (l : List ℕ) → n ≤ length l → n ≡ length (take n l)
-front-is n l h = omega (arith, length-take n l)
-
-pub cut-is : (r a : ℕ) (l : List ℕ) → r ≡ min a (length l) → r ≡ length (take r l)
-cut-is r a l q = omega (arith, length-take r l)
-
 -- the line in progress ends where its buffer does, at the latest
 pub cut_line : (n m : ℕ) (l : List ℕ) → m ≡ min n (length l) → take m l ≡ take n l
 cut_line n m l q = go (leb n (length l)) refl
@@ -100,85 +87,56 @@ cut_line n m l q = go (leb n (length l)) refl
     go true e = let z : m ≡ n = omega (arith, leb-true n (length l) e) in ap (λ (i : ℕ). take i l) z
     go false e = take_all m l (omega (arith, leb-false n (length l) e)) ∙ sym (take_all n l (omega (arith, leb-false n (length l) e)))
 
-module _ (l : List ℕ) (p : Progress) (n : ℕ) (x y : List ℕ) (r : ℕ) (size : length l ≡ 4097) (q : n ≡ min p.len (length l)) where
-  pub outs-rest : p.long ≡ true → Prints (take n l) 0 x y r → Outs (state_of l p) x y r
+module _ (l : List ℕ) (len : ℕ) (long : Bool) (n : ℕ) (x y : List ℕ) (r : ℕ) (size : length l ≡ 4097) (q : n ≡ min len (length l)) where
+  pub outs-rest : long ≡ true → Prints (take n l) 0 x y r → Outs (state_of l len long false) x y r
   outs-rest e w =
       record {
-        text = take p.len l;
+        text = take len l;
         is = rest e;
-        prints = subst (λ (t : List ℕ). Prints t 0 x y r) (cut_line p.len n l q) w;
+        prints = subst (λ (t : List ℕ). Prints t 0 x y r) (cut_line len n l q) w;
         fits = omega (arith, w.ends, length-take n l);
       }
 
-  pub outs-whole : p.long ≡ false → Tidies (take n l) x y r → Outs (state_of l p) x y r
+  pub outs-whole : long ≡ false → Tidies (take n l) x y r → Outs (state_of l len long false) x y r
   outs-whole e w =
       record {
         text = w.text;
-        is = whole e (subst (λ (t : List ℕ). Tidied t w.text) (cut_line p.len n l q) w.is);
+        is = whole e (subst (λ (t : List ℕ). Tidied t w.text) (cut_line len n l q) w.is);
         prints = w.prints;
         fits = omega (arith, w.prints.ends, tidied-short w.is, length-take n l);
       }
 
 -- a newline behind what was printed
-pub steps-ends : {w w' : Stand} (b : ℕ) (s : State) (x y z : List ℕ) (r m : ℕ) → b ≡ 10 → length y ≡ length x → length x ≡ 4098 → (o : Outs s x y r) → Closes true y r z m → Written w w' (take m z)
-    → Steps b s (begun s) z w w'
-steps-ends {w} {w'} b s x y z r m e k h o c v =
-    let q = c.line refl in
+pub steps-ends : {w w' : Stand} (b : ℕ) (s : State) (x y : List ℕ) (r : ℕ) → b ≡ 10 → length y ≡ length x → length x ≡ 4098 → (o : Outs s x y r) → Written w w' (take (r + 1) (set y r 10)) → Steps b s (begun s) (set y r 10) w w'
+steps-ends {w} {w'} b s x y r e k h o v =
     let n : length (o.text ++ (10 ∷ [])) ≡ suc r = omega (arith, length-append o.text (10 ∷ []), o.prints.ends) in
-    let f : take (length (o.text ++ (10 ∷ []))) z ≡ o.text ++ (10 ∷ []) = rw (n, q.0) (take-suc-set y r 10 (omega (arith, o.fits)) ∙ ap (λ (t : List ℕ). t ++ (10 ∷ [])) (line-is o.prints)) in
-    let same : m ≡ length (o.text ++ (10 ∷ [])) = omega (arith, q.1, n) in
-    record { text = o.text ++ (10 ∷ []); is = ends e o.is; handed = f; written = subst (Written w w') (ap (λ (i : ℕ). take i z) same ∙ f) v }
+    let f : take (suc r) (set y r 10) ≡ o.text ++ (10 ∷ []) = take-suc-set y r 10 (omega (arith, o.fits)) ∙ ap (λ (t : List ℕ). t ++ (10 ∷ [])) (line-is o.prints) in
+    record { text = o.text ++ (10 ∷ []); is = ends e o.is; handed = rw n f; written = subst (Written w w') (ap (λ (i : ℕ). take i (set y r 10)) (add-one r) ∙ f) v }
 
-pub whole-line : {s : State} (l : List ℕ) (n : ℕ) → n < length l → Ending s (take n l) → Whole s (take (n + 1) (set l n 10))
-whole-line l n h e = record { text = take n l; is = e; line = rw (add-one n) (take-suc-set l n 10 h) }
-
--- what came out, as the buffer has it
-pub outs-ending : {s : State} {x y : List ℕ} {r : ℕ} → Outs s x y r → Ending s (take r y)
-outs-ending {s} o = subst (Ending s) (sym (line-is o.prints)) o.is
-
--- a line that ended is closed by a newline, and the last one by nothing
-pub closed-line : {s : State} {x y z : List ℕ} {r m : ℕ} → length y ≡ length x → length x ≡ 4098 → Outs s x y r → Closes true y r z m → (m ≤ length z) × Whole s (take m z)
-closed-line {s} {x} {y} {z} {r} {m} k h o c =
-    let e = c.line refl in (
-      omega (arith, o.fits, e.1, ap length e.0, length-set y r 10),
-      rw (e.0, e.1) (whole-line y r (omega (arith, o.fits)) (outs-ending o)),
-    )
-
-pub closed-last : {s : State} {x y z : List ℕ} {r m : ℕ} → length y ≡ length x → length x ≡ 4098 → Outs s x y r → Closes false y r z m → (m ≤ length z) × Ending s (take m z)
-closed-last {s} {x} {y} {z} {r} {m} k h o c = let e = c.last refl in (rw (e.0, e.1) (omega (arith, o.fits)), rw (e.0, e.1) (outs-ending o))
-
--- a full buffer, copied
-pub held-is : {l x y : List ℕ} {r : ℕ} → Prints l 0 x y r → take r y ≡ l
-held-is w = line-is w
-
-pub finishes-is : {w w' : Stand} (s : State) (x y z : List ℕ) (r m : ℕ) → (o : Outs s x y r) → Closes false y r z m → Written w w' (take m z) → Finishes s (ended s) z w w'
-finishes-is {w} {w'} s x y z r m o c v =
-    let q = c.last refl in
-    let n : length o.text ≡ r = omega (arith, o.prints.ends) in
-    let f : take (length o.text) z ≡ o.text = rw (n, q.0) (line-is o.prints) in
-    let same : m ≡ length o.text = omega (arith, q.1, n) in
-    record { text = o.text; is = last o.is; handed = f; written = subst (Written w w') (ap (λ (i : ℕ). take i z) same ∙ f) v }
+pub finishes-is : {w w' : Stand} {s s' : State} (x y : List ℕ) (r : ℕ) → s' ≡ s → (o : Outs s x y r) → Written w w' (take r y) → Finishes s (ended s') y w w'
+finishes-is {w} {w'} x y r q o v =
+    let n : length o.text ≡ r = omega (arith, o.prints.ends) in record { text = o.text; is = rw q (last o.is); handed = rw n (line-is o.prints); written = subst (Written w w') (line-is o.prints) v }
 
 -- ---- a byte of a line
 
-module _ (l : List ℕ) (p : Progress) (b : ℕ) (out : List ℕ) (size : length l ≡ 4097) (no : b ≡ 10 → ⊥) where
-  pub steps-adds : {w : Stand} → p.len < 4097 → Steps b (state_of l p) (state_of (set l p.len b) (record { len = p.len + 1; long = p.long; over = p.over })) out w w
+module _ (l : List ℕ) (len : ℕ) (long : Bool) (b : ℕ) (out : List ℕ) (size : length l ≡ 4097) (no : b ≡ 10 → ⊥) where
+  pub steps-adds : {w : Stand} → len < 4097 → Steps b (state_of l len long false) (state_of (set l len b) (len + 1) long false) out w w
   steps-adds h =
       record {
         text = [];
-        is = rw (add-one p.len, take-suc-set l p.len b (omega arith)) (adds no (omega (arith, length-take p.len l)));
+        is = rw (add-one len, take-suc-set l len b (omega arith)) (adds no (omega (arith, length-take len l)));
         handed = refl;
         written = written-none;
       }
 
-  pub steps-spills : {v v' : Stand} (x : List ℕ) (r : ℕ) → 4097 ≤ p.len → Prints l 0 x out r → Written v v' (take r out)
-      → Steps b (state_of l p) (state_of (set l 0 b) (record { len = 1; long = true; over = p.over })) out v v'
+  pub steps-spills : {v v' : Stand} (x : List ℕ) (r : ℕ) → 4097 ≤ len → Prints l 0 x out r → Written v v' (take r out)
+      → Steps b (state_of l len long false) (state_of (set l 0 b) 1 true false) out v v'
   steps-spills {v} {v'} x r h w u =
-      let e : take p.len l ≡ l = take_all p.len l (omega arith) in
+      let e : take len l ≡ l = take_all len l (omega arith) in
       let one : take 1 (set l 0 b) ≡ b ∷ [] = take-suc-set l 0 b (omega arith) in
       record {
-        text = take p.len l;
-        is = rw one (spills no (omega (arith, length-take p.len l)));
+        text = take len l;
+        is = rw one (spills no (omega (arith, length-take len l)));
         handed = rw e (ap (λ (n : ℕ). take n out) (let z : length l ≡ r = omega (arith, w.ends) in z) ∙ line-is w);
         written = subst (Written v v') (line-is w ∙ sym e) u;
       }
@@ -199,9 +157,6 @@ feeds-more l i h f x =
       is = rw (add-one i, take-suc l i 0 h) (fed-join f.is (more x.is none));
       written = written-then f.written (written-then x.written written-none);
     }
-
-pub feeds-all : {s s' : State} {o o' : Stand} (l : List ℕ) (i : ℕ) → length l ≤ i → Feeds (take i l) s s' o o' → Feeds l s s' o o'
-feeds-all {s} {s'} {o} {o'} l i h f = subst (λ (bs : List ℕ). Feeds bs s s' o o') (take_all i l h) f
 
 -- ---- the end of the input
 
@@ -242,8 +197,8 @@ taken-start : {i : Stand} → Taken i i (input_of [])
 unfolding input_of
 taken-start = taken-none
 
-pub serving-none : {i o : Stand} (l : List ℕ) → Serving at_start (state_of l (record { len = 0; long = false; over = false })) cap i i o o
-serving-none l = record { brought = []; text = []; is = unread; count = omega arith; taken = taken-start; written = written-none }
+pub serving-none : {s : State} {i o : Stand} → Serving s s cap i i o o
+serving-none = record { brought = []; text = []; is = unread; count = omega arith; taken = taken-start; written = written-none }
 
 -- one read more
 module _ {s s' s'' : State} {i i' i'' o o' o'' : Stand} (bs : List ℕ) (n room size : ℕ) (same : size ≡ room) (y : Serving s s' n i i' o o') (go : s'.over ≡ false) (g : Brought size i' i'' bs) (x : Turns bs s' s'' o' o'') where
@@ -281,20 +236,3 @@ module _ {s s' s'' : State} {i i' i'' o o' o'' : Stand} (bs : List ℕ) (n room 
 
 pub serving-left : {s s' : State} {i i' o o' : Stand} (n m : ℕ) → n ≡ m → Serving s s' n i i' o o' → Serving s s' m i i' o o'
 serving-left {s} {s'} {i} {i'} {o} {o'} n m e y = subst (λ (k : ℕ). Serving s s' k i i' o o') e y
-
-pub serves-cut : {s s' : State} {i i' o o' : Stand} (n room : ℕ) → n ≡ 0 → s'.over ≡ false → Serving s s' n i i' o o' → Serves room s s' i i' o o'
-serves-cut n room h e y =
-    record {
-      brought = y.brought;
-      text = y.text;
-      is = y.is;
-      stops = λ z. omega (arith, y.count);
-      taken = y.taken;
-      ends = λ z. absurd (true≢false (sym z ∙ e));
-      written = y.written;
-    }
-
--- ---- the buffers are lent on
-
-pub lent-on : {l f s o l' f' s' o' : List ℕ} → Sized l f s o → length l' ≡ length l → length f' ≡ length f → length s' ≡ length s → length o' ≡ length o → Sized l' f' s' o'
-lent-on z q1 q2 q3 q4 = record { line = q1 ∙ z.line; first = q2 ∙ z.first; second = q3 ∙ z.second; out = q4 ∙ z.out }

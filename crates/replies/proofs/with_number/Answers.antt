@@ -1,18 +1,20 @@
 -- `replies::with_number` meets its contract: a text behind a text. Assumes nothing.
 use native.Mathlib.Omega.{arith}
+use Rattle.std.proofs.Common.{rules}
+use mathlib.Core.Path.{ap}
+use lib.ListN.{length}
 use Rattle.replies.specs.Replies.{numbered}
-use Rattle.replies.specs.ReplyLaws.{prints-then, decimal-ends}
+use Rattle.replies.specs.ReplyLaws.{prints-then, prints-to, decimal-ends}
 use Rattle.replies.proofs.with_number.Goals as goal
 
 pub byte-requires : goal.byte-requires
 byte-requires c =
-    let s = c in
-    let at-number = c.number-k in
-    omega (arith, decimal-ends s.args.head.now _ at-number.ensures, at-number.auto.out, s.requires)
+    let e = c.new-line.ensures.empty in
+    omega (arith, decimal-ends c.args.head.now _ c.number.ensures.printed, e.0, ap length e.1)
 
 pub returns : goal.returns
 unfolding numbered
 returns c =
-    let s = c in
-    let at-number = c.number-k in
-    prints-then (omega (arith, decimal-ends s.args.head.now _ at-number.ensures, s.requires)) at-number.ensures c.byte.ensures
+    let e = c.new-line.ensures.empty in
+    let p = rw (e.0, e.1) at c.number.ensures.printed in
+    prints-to (search rules) (prints-then (omega (arith, decimal-ends c.args.head.now _ p)) p c.byte.ensures.printed)

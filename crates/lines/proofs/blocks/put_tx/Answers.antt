@@ -21,4 +21,4 @@ returns-then-not-ends c = L.tx-off _ _ _ _ _ c.in_ok-inside.ensures _ _ c.in_ok-
 
 pub returns : goal.returns
 unfolding I.item_of
-returns c = L.tx-yes _ _ _ _ _ c.in_ok-inside.ensures _ _ c.in_ok-id.ensures _ _ _ _ c.in_ok-words.ensures _ c.ends.ensures _ _ _ _ c.if-not-ends.false c.requires.1 c.put_id.ensures refl
+returns c = L.tx-yes _ _ _ _ _ c.in_ok-inside.ensures _ _ c.in_ok-id.ensures _ _ _ _ c.in_ok-words.ensures _ c.ends.ensures _ _ _ _ c.if-not-ends.false c.requires.1 c.put_words.ensures refl

@@ -14,7 +14,7 @@ pub returns-in_err-rest : goal.returns-in_err-rest
 returns-in_err-rest c = if-none _ _ c.from_residual.ensures (L.ends-item _ _ _ _ _ _ _ _ c.loop-rest.invariant (L.end_is _ _ _ _ c.ends.ensures c.loop-rest-test.true) c.in_err-rest.ensures)
 
 pub loop-rest-preserved : goal.loop-rest-preserved
-loop-rest-preserved c = L.goes_by _ _ _ _ _ _ _ _ c.loop-rest.invariant _ _ _ (L.end_is _ _ _ _ c.ends.ensures c.loop-rest-test.true) (omega (arith, c.if-out-k.false, c.width-w.ensures, c.loop-rest.invariant.room, c.loop-rest.invariant.same)) c.in_ok-rest.ensures c.width-w.ensures
+loop-rest-preserved c = L.goes_by _ _ _ _ _ _ _ _ c.loop-rest.invariant _ _ _ (L.end_is _ _ _ _ c.ends.ensures c.loop-rest-test.true) (omega (arith, c.if-out-k.false, c.width-w.ensures, c.loop-rest.invariant.room, c.loop-rest.invariant.same)) (L.item-part _ _ _ _ _ _ _ _ (omega (arith, c.loop-rest.invariant.room, c.loop-rest.invariant.same)) c.in_ok-rest.ensures) c.width-w.ensures
 
 pub returns : goal.returns
 returns c = L.ends-whole _ _ _ _ _ _ _ _ c.loop-rest.invariant (L.end_is _ _ _ _ c.ends.ensures c.loop-rest-test.false)

@@ -1,5 +1,5 @@
 -- `items::put_box` meets its contract: the id is read, and its words are written.
-use Rattle.std.proofs.Common.{arith, refl, sym, ap, ◌∙◌, ◌+◌, List, ℕ, set}
+use Rattle.std.proofs.Common.{refl}
 use Rattle.forms.specs.TextLaws.{if-none}
 use Rattle.words.specs.Ids.{id_words}
 use Rattle.lines.specs.Fields as F
@@ -13,4 +13,4 @@ returns-in_err-id c = if-none _ _ c.from_residual.ensures (L.item-no-word F.ids 
 
 pub returns : goal.returns
 unfolding I.boxes
-returns c = L.item-word F.ids 4 id_words (λ v. refl) _ _ _ c.args.k c.args.out.now _ _ _ c.requires c.in_ok-id.ensures c.put_id.ensures
+returns c = L.item-word F.ids 4 id_words (λ v. refl) _ _ _ 0 c.args.out.now _ _ _ c.requires c.in_ok-id.ensures c.put_id.ensures

@@ -1,5 +1,5 @@
 -- `items::put_flag` meets its contract: the word is read, and its number is written.
-use Rattle.std.proofs.Common.{arith, refl, sym, ap, ◌∙◌, ◌+◌, List, ℕ, set}
+use Rattle.std.proofs.Common.{refl}
 use Rattle.forms.specs.TextLaws.{if-none}
 use Rattle.lines.specs.Fields as F
 use Rattle.lines.specs.Items as I
@@ -12,4 +12,4 @@ returns-in_err-flag c = if-none _ _ c.from_residual.ensures (L.item-no-word (F.c
 
 pub returns : goal.returns
 unfolding I.flags
-returns c = L.item-word (F.choices I.w_set I.w_not) 1 I.flag_words (λ v. refl) _ _ _ c.args.k c.args.out.now _ _ _ c.requires c.in_ok-flag.ensures (L.one-stored _ _ _)
+returns c = L.item-word (F.choices I.w_set I.w_not) 1 I.flag_words (λ v. refl) _ _ _ 0 c.args.out.now _ _ _ c.requires c.in_ok-flag.ensures (L.one-stored _ _ _)

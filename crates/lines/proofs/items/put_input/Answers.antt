@@ -1,5 +1,5 @@
 -- `items::put_input` meets its contract: the fields are read one behind the other, then the end, and their words are written.
-use Rattle.std.proofs.Common.{arith, refl, sym, ap, ◌∙◌, ◌+◌, List, ℕ, set}
+use Rattle.std.proofs.Common.{refl}
 use Rattle.forms.specs.TextLaws.{if-none}
 use Rattle.lines.specs.Items as I
 use Rattle.lines.specs.ItemLaws as L
@@ -23,4 +23,4 @@ returns-then-not-ends c = L.item-off 5 I.input_words I.is_input (λ i. refl) _ _
 
 pub returns : goal.returns
 unfolding I.inputs I.input_words
-returns c = L.item-yes 5 I.input_words I.is_input (λ i. refl) _ _ _ _ _ c.in_ok-inside.ensures c.args.k c.args.out.now c.requires _ refl (L.inner-input _ _ _ c.in_ok-id.ensures _ _ _ c.ends.ensures c.in_ok-flag.ensures c.if-not-ends.false) _ (ap (λ (z : List ℕ). set z (c.args.k + 4) c.in_ok-flag.flag) c.put_id.ensures)
+returns c = L.item-yes 5 I.input_words I.is_input (λ i. refl) _ _ _ _ _ c.in_ok-inside.ensures 0 c.args.out.now c.requires _ refl (L.inner-input _ _ _ c.in_ok-id.ensures _ _ _ c.ends.ensures c.in_ok-flag.ensures c.if-not-ends.false) _ c.put_words.ensures

@@ -1,5 +1,5 @@
 -- `items::put_output` meets its contract: the fields are read one behind the other, then the end, and their words are written.
-use Rattle.std.proofs.Common.{arith, refl, sym, ap, ◌∙◌, ◌+◌, List, ℕ, set}
+use Rattle.std.proofs.Common.{refl}
 use Rattle.forms.specs.TextLaws.{if-none}
 use Rattle.lines.specs.Items as I
 use Rattle.lines.specs.ItemLaws as L
@@ -31,4 +31,4 @@ returns-then-not-ends c = L.item-off 7 I.output_words I.is_output (λ i. refl) _
 
 pub returns : goal.returns
 unfolding I.outputs I.output_words
-returns c = L.item-yes 7 I.output_words I.is_output (λ i. refl) _ _ _ _ _ c.in_ok-inside.ensures c.args.k c.args.out.now c.requires _ refl (L.inner-output _ _ _ c.in_ok-id.ensures _ _ c.in_ok-amount.ensures _ _ c.in_ok-fee.ensures _ _ c.in_ok-height.ensures _ c.ends.ensures c.if-not-ends.false) _ (c.put_seven.ensures)
+returns c = L.item-yes 7 I.output_words I.is_output (λ i. refl) _ _ _ _ _ c.in_ok-inside.ensures 0 c.args.out.now c.requires _ refl (L.inner-output _ _ _ c.in_ok-id.ensures _ _ c.in_ok-amount.ensures _ _ c.in_ok-fee.ensures _ _ c.in_ok-height.ensures _ c.ends.ensures c.if-not-ends.false) _ c.put_words.ensures

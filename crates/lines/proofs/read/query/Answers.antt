@@ -1,5 +1,5 @@
 -- `read::query` meets its contract: the first word decides.
-use Rattle.std.proofs.Common.{refl, sym, ◌∙◌}
+use Rattle.std.proofs.Common.{sym, ◌∙◌}
 use Rattle.lines.specs.Forms as F
 use Rattle.lines.specs.FormLaws as L
 use Rattle.lines.proofs.read.query.Goals as goal

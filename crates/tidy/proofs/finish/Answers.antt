@@ -1,6 +1,0 @@
--- `finish` meets its contract: the last line comes out without a newline.
-use Rattle.tidy.specs.Loop.{finishes-is}
-use Rattle.tidy.proofs.finish.Goals as goal
-
-pub returns : goal.returns
-returns g c = finishes-is _ _ _ _ _ _ c.ending-len.ensures c.close-n.ensures c.hand_last.ensures
