@@ -27,7 +27,8 @@ pub fn is_whole(list: &[u64], width: usize) -> bool
     list.len() % width == 0
 }
 
-// Whether both lists are whole numbers of records. They come with the widths of the call: `Lists` (crate pool_types) has no widths, and stands above.
+// Whether both lists are whole numbers of records. Lists and widths side by side: a struct of the four would be made
+// for this test alone, and be no plainer.
 pub fn are_whole(inputs: &[u64], in_width: usize, outputs: &[u64], out_width: usize) -> bool
     requires { (0 < in_width) × (0 < out_width) }
     ensures { result ≡ (whole in_width inputs.now && whole out_width outputs.now) }

@@ -1,8 +1,8 @@
 // The pool's words as a call has them once its counts were found to fit: `Pool` to read, `PoolMut` to change. Both are flat, entries and boxes side by
 // side: of a table in a struct of its own, in the pool's, no clause could be proved that the caller's words become what it leaves.
-ghost use Rattle.std.specs.Prelude.{◌≡◌, true, false, not, Option, ◌+◌, ◌≤◌, ◌<◌, ltb};
+ghost use Rattle.std.specs.Prelude.{◌≡◌, true, false, not, ◌+◌, ◌≤◌, ◌<◌, ltb};
 ghost use Rattle.words.specs.Ids.{id_of};
-ghost use Rattle.entries.specs.Entries.{pooled, credit, stamped};
+ghost use Rattle.entries.specs.Entries.{pooled, credit};
 ghost use Rattle.entries.specs.Layout.{EntriesKept, entry_of, entries_of, entries_room};
 ghost use Rattle.entries.specs.Layout.{Left as Rows};
 ghost use Rattle.boxes.specs.Layout.{boxes_room};
@@ -16,7 +16,7 @@ use boxes::records::{drop_owner, enter_tx};
 use boxes::rows::boxes_room;
 use boxes::views::Boxes;
 use entries::fields::{PoolEntry, entries_room};
-use entries::table::{credit_entry, insert_entry, remove_entry, remove_lowest, stamp_entry};
+use entries::table::{credit_entry, insert_entry, remove_entry, remove_lowest};
 use entries::views::Entries;
 use pool_types::Counts;
 use words::ids::Id;
@@ -160,14 +160,5 @@ impl<'a> PoolMut<'a> {
         ensures rows { EntriesKept self.old.entries.now self.old.counts.pooled → Rows self.old.entries.now self.new.entries.now self.old.counts.pooled (credit amount (id_of id) (entries_of self.old.entries.now self.old.counts.pooled)) }
     {
         credit_entry(self.entries, self.counts.pooled, id, amount);
-    }
-
-    // Gives the entry with this id a validation cost and the time of its check.
-    pub fn stamp(&mut self, id: Id, cost: Option<u64>, time: u64)
-        ensures same { Same self.old self.new }
-        ensures others { (self.new.boxes.now ≡ self.old.boxes.now) × (self.new.counts ≡ self.old.counts) }
-        ensures rows { EntriesKept self.old.entries.now self.old.counts.pooled → Rows self.old.entries.now self.new.entries.now self.old.counts.pooled (stamped (id_of id) cost time (entries_of self.old.entries.now self.old.counts.pooled)) }
-    {
-        stamp_entry(self.entries, self.counts.pooled, id, cost, time);
     }
 }
