@@ -10,20 +10,20 @@ use Rattle.entries.specs.Layout.{entries_of, EntriesKept}
 use Rattle.pool.specs.Pool.{Tables}
 use Rattle.blocks.specs.Blocks.{Progress, confirm_one, applied_tx, inputs_at}
 use Rattle.blocks.specs.Steps.{Removal, Doing, Does, safe-after, later, agreed-more, later_more}
-use Rattle.blocks.specs.declared.Seen.{Seen}
+use Rattle.entries.specs.declared.fields.Since.{Since}
 use Rattle.blocks.specs.Runs.{Run, seen_of, tallied, recorded-seen, spent-stats, confirm-stats, Come, Went, Passing}
 
 -- the statistics of one transaction
-applied-stats : (time k : ℕ) (bs : List ℕ) (m : Progress) (v : Option Seen) → v ≡ seen_of (found (λ e. e.id) k m.tables.entries) → (applied_tx time k bs m).stats ≡ tallied time v m.stats
+applied-stats : (time k : ℕ) (bs : List ℕ) (m : Progress) (v : Option Since) → v ≡ seen_of (found (λ e. e.id) k m.tables.entries) → (applied_tx time k bs m).stats ≡ tallied time v m.stats
 applied-stats time k bs m v q =
     spent-stats k bs (confirm_one time k m) ∙ confirm-stats time k m ∙ recorded-seen time (found (λ e. e.id) k m.tables.entries) m.stats ∙ rw q
 
-unseen : (v : Option Seen) → is_some v ≡ false → v ≡ None
+unseen : (v : Option Since) → is_some v ≡ false → v ≡ None
 unseen None h = refl
 unseen (Some v) h = let w : ◌≡◌ {A = ℕ} 0 1 = cc in absurd (omega arith)
 
 -- one transaction more, which was seen so
-module _ (txs ins : List ℕ) (i j to : ℕ) (h : i < records 5 txs) (q : to ≡ j + field 5 4 txs i) (k n : ℕ) (kq : k ≡ id_at txs (i * 5)) (nq : n ≡ field 5 4 txs i) {e b a e' b' a' e'' b'' a'' : List ℕ} {g : Run} {r r' : Removal} (v : Option Seen)
+module _ (txs ins : List ℕ) (i j to : ℕ) (h : i < records 5 txs) (q : to ≡ j + field 5 4 txs i) (k n : ℕ) (kq : k ≡ id_at txs (i * 5)) (nq : n ≡ field 5 4 txs i) {e b a e' b' a' e'' b'' a'' : List ℕ} {g : Run} {r r' : Removal} (v : Option Since)
     (vq : EntriesKept e' r.counts.pooled → v ≡ seen_of (found (λ x. x.id) k (entries_of e' r.counts.pooled))) (p : Passing txs ins e b a g e' b' a' r i j)
     (d : (time : ℕ) → Does (applied_tx time k (inputs_at ins j n)) e' b' a' r e'' b'' a'' r') where
   one-come : (time : ℕ) (a₀ : List ℕ) (m : Progress) → Doing e b a₀ a g.left m

@@ -27,15 +27,15 @@ use Rattle.blocks.specs.Blocks.{Progress, recorded, confirm_one, drive_out, riva
 use Rattle.blocks.specs.Steps.{Removal, Safe, Doing, safe-none, Agreed, later, agreed-none, later-none, later-all}
 use Rattle.blocks.specs.Tests.{Passed, passed, refusal_on, code-none}
 use Rattle.blocks.specs.declared.Run.{Run as CodeRun}
-use Rattle.blocks.specs.declared.Seen.{Seen}
+use Rattle.entries.specs.declared.fields.Since.{Since}
 
 -- ---- what is to be recorded of an entry that was found, and the statistics with it
 
-unfoldable pub seen_of : List Entry → Option Seen
+unfoldable pub seen_of : List Entry → Option Since
 seen_of [] = None
 seen_of (e ∷ es) = Some (record { created = e.created; base = e.base })
 
-abbrev pub tallied : ℕ → Option Seen → FeeStats → FeeStats
+abbrev pub tallied : ℕ → Option Since → FeeStats → FeeStats
 tallied time None s = s
 tallied time (Some v) s = confirmed 60000 s time v.created v.base
 
@@ -104,7 +104,7 @@ pub record Run : Type 0 where
   pub at : ℕ
   pub from : ℕ
   pub left : Removal
-  pub seen : Option Seen
+  pub seen : Option Since
 
 abbrev pub run_of : Counts → CodeRun → Run
 run_of c r = record { cached = r.cached; at = r.at; from = r.from; left = record { counts = c; written = r.written }; seen = r.seen }
@@ -128,7 +128,7 @@ pub record Come (txs ins : List ℕ) (i j time : ℕ) (s : FeeStats) (x : Progre
 pub record Went (txs ins e b a : List ℕ) (g : Run) (e' b' a' : List ℕ) (r : Run) : Type 0 where
   pub cached : r.cached ≡ g.cached
   pub ready : Ready e' b' txs ins r
-  pub on : (v : Seen) → r.seen ≡ Some v → (g.at < r.at) × (r.at ≤ records 5 txs)
+  pub on : (v : Since) → r.seen ≡ Some v → (g.at < r.at) × (r.at ≤ records 5 txs)
   pub ended : r.seen ≡ None → records 5 txs ≤ r.at
   -- what was written and what is pooled are no more than before together
   pub sum : r.left.written + r.left.counts.pooled ≤ g.left.written + g.left.counts.pooled
@@ -227,7 +227,7 @@ module _ (txs ins e b k : List ℕ) (st : Mempool) (room : ℕ) (z : refusal_on 
         come = λ kept. rw (later-none txs ins time (begun_on e b st s)) at (w.goes time a (begun_on e b st s) (record { kept = kept; tables = refl; wrote = wrote_nothing a 0; count = refl }));
       }
 
-module _ {time : ℕ} {txs ins e b k a : List ℕ} {st : Mempool} {s : FeeStats} {e' b' k' a' e'' b'' a'' : List ℕ} {g r : Run} {x x' : FeeStats} {v : Seen} where
+module _ {time : ℕ} {txs ins e b k a : List ℕ} {st : Mempool} {s : FeeStats} {e' b' k' a' e'' b'' a'' : List ℕ} {g r : Run} {x x' : FeeStats} {v : Since} where
   come-on : Running time txs ins e b k a st s e' b' k' a' g x → g.seen ≡ Some v → x' ≡ confirmed 60000 x time v.created v.base → Went txs ins e' b' a' g e'' b'' a'' r → PoolKept e b st.counts
       → Come txs ins r.at r.from time (tallied time r.seen x') (applied_txs time (confirmed_of txs ins) (begun_on e b st s)) e'' b'' a a'' r.left
   come-on p z q w kept =
@@ -243,13 +243,13 @@ module _ {time : ℕ} {txs ins e b k a : List ℕ} {st : Mempool} {s : FeeStats}
       record { accepted = p.accepted; ready = w.ready; room = p.room; sum = omega (arith, w.sum, p.sum); ended = w.ended; pruned = rw w.cached p.pruned; come = come-on p z q w }
 
 -- how many turns there are at most
-abbrev pub turns : List ℕ → Option Seen → ℕ → ℕ
+abbrev pub turns : List ℕ → Option Since → ℕ → ℕ
 turns txs None at = 0
 turns txs (Some v) at = suc (records 5 txs - at)
 
-pub fewer-turns : {txs ins e b a e' b' a' : List ℕ} {g r : Run} {v : Seen} → g.seen ≡ Some v → Went txs ins e b a g e' b' a' r → turns txs r.seen r.at < turns txs g.seen g.at
+pub fewer-turns : {txs ins e b a e' b' a' : List ℕ} {g r : Run} {v : Since} → g.seen ≡ Some v → Went txs ins e b a g e' b' a' r → turns txs r.seen r.at < turns txs g.seen g.at
 fewer-turns {txs = txs} {g = g} {r = r} z w = rw z (go r.seen w.on)
   where
-    go : (o : Option Seen) → ((v : Seen) → o ≡ Some v → (g.at < r.at) × (r.at ≤ records 5 txs)) → turns txs o r.at < suc (records 5 txs - g.at)
+    go : (o : Option Since) → ((v : Since) → o ≡ Some v → (g.at < r.at) × (r.at ≤ records 5 txs)) → turns txs o r.at < suc (records 5 txs - g.at)
     go None h = omega arith
     go (Some v) h = omega (arith, (h v refl).0, (h v refl).1)

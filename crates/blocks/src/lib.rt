@@ -29,6 +29,7 @@ ghost use Rattle.blocks.specs.Numbers.{of_block};
 use answers::write_id;
 use arguments::{counts_agree, is_whole};
 use boxes::lists::Ids;
+use entries::fields::Since;
 use entries::views::Entries;
 use expiring_cache::ExpiringCacheMut;
 use indexes::owners::spender;
@@ -46,13 +47,6 @@ pub struct Applied {
     pub outcome: Result<usize, Refusal>,
 }
 
-// What is recorded of a transaction that was pooled: when it was made, and its base weight.
-#[derive(Clone, Copy)]
-struct Seen {
-    created: u64,
-    base: u64,
-}
-
 // What goes from one confirmation to the next: how many ids the cache holds; the next transaction of the block and its first input; how many ids were
 // written so far; and what is to be recorded.
 #[derive(Clone, Copy)]
@@ -61,7 +55,7 @@ struct Run {
     at: usize,
     from: usize,
     written: usize,
-    seen: Option<Seen>,
+    seen: Option<Since>,
 }
 
 // ---- one transaction. Each step takes how many ids were written, and returns how many are then.
@@ -83,14 +77,11 @@ fn take_out(pool: &mut PoolMut<'_>, answer: &mut [u64], written: usize, id: Id) 
 
 // What the statistics are to know of a transaction, if it is pooled.
 #[tactic(auto, using(crate::specs::Runs::seen_there, crate::specs::Runs::seen_nowhere))]
-fn look(entries: &Entries<'_>, id: Id) -> Option<Seen>
+fn look(entries: &Entries<'_>, id: Id) -> Option<Since>
     ensures { EntriesKept entries.now.words.now entries.now.pooled → result ≡ seen_of (found (λ x. x.id) (id_of id) (entries_of entries.now.words.now entries.now.pooled)) }
 {
     let i = entries.find(id)?;
-    Some(Seen {
-        created: entries.created_at(i),
-        base: entries.base_at(i),
-    })
+    Some(entries.since_at(i))
 }
 
 // A box that transaction `id` spends: another one that spends it leaves. It was not confirmed, so it is not recorded.
