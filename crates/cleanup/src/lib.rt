@@ -37,9 +37,8 @@ use entries::table::stamp_entry;
 use entries::views::Entries;
 use indexes::inputs::count_inputs;
 use indexes::resolved::answer_resolved;
-use pool::lent::PoolMut;
 use pool_types::{AnswerOutcome, Done, Mempool, NextOutcome, Pass, Refusal, Verdict};
-use returns::remember;
+use returns::{remember, take_out};
 use store::fits_cache;
 use words::ids::Id;
 
@@ -298,29 +297,19 @@ fn answered_with(pass: Pass, cost: u64) -> Pass
     }
 }
 
-// The candidate leaves the pool with its records, and its previous cost is added. The call lends tables and hands a state by value, so that here the pool
-// is made of them, and the clause asks that they fit.
-fn take_out(entries: &mut [u64], boxes: &mut [u64], mempool: Mempool) -> Mempool
+// The candidate leaves the pool with its records, and its previous cost is added.
+fn answer_out(entries: &mut [u64], boxes: &mut [u64], mempool: Mempool) -> Mempool
     requires { PoolFits entries.old boxes.old mempool.counts }
     ensures { PoolKept entries.old boxes.old mempool.counts → Stepped entries.new boxes.new mempool result
         (remove_tx (id_of mempool.pass.candidate) (tables_of entries.old boxes.old mempool.counts))
         (answered_with (previous_cost (found (λ x. x.id) (id_of mempool.pass.candidate) (entries_of entries.old mempool.counts.pooled))) (pass_of mempool.pass)) }
 {
-    let mut pool = PoolMut {
-        entries,
-        boxes,
-        counts: mempool.counts,
-    };
     let answering = mempool.pass;
     let id = answering.candidate;
-    let cost = previous_cost(&pool.entries(), id);
-    pool.remove(id);
+    let cost = previous_cost(&Entries::new(entries, mempool.counts.pooled), id);
+    let left = take_out(entries, boxes, mempool, id);
     let pass = answered_with(answering, cost);
-    Mempool {
-        counts: pool.counts,
-        pass,
-        ..mempool
-    }
+    Mempool { pass, ..left }
 }
 
 // The candidate is stamped with the cost that was measured and the pass's time, and that cost is added. No box changes, so that the entries alone
@@ -371,7 +360,7 @@ fn weigh(
         },
         Verdict::Invalid => {
             let known = remember(cache, mempool, mempool.pass.time, id);
-            let after = take_out(entries, boxes, known);
+            let after = answer_out(entries, boxes, known);
             Done {
                 mempool: after,
                 outcome: Ok(AnswerOutcome::FoundInvalid(id)),
@@ -413,7 +402,7 @@ pub fn answer(
     let id = mempool.pass.candidate;
     let found = Boxes::new(boxes, mempool.counts.records);
     if !answer_resolved(&found, id, flags) {
-        let after = take_out(entries, boxes, mempool);
+        let after = answer_out(entries, boxes, mempool);
         return Done {
             mempool: after,
             outcome: Ok(AnswerOutcome::InputMissing(id)),

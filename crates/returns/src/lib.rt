@@ -179,7 +179,7 @@ pub fn return_to_pool(
 
 // Takes it out of the pool with its records, where it is there. The call lends tables and hands a state by value, so that here the pool is made of them,
 // and the clause asks that they fit.
-fn take_out(entries: &mut [u64], boxes: &mut [u64], mempool: Mempool, id: Id) -> Mempool
+pub fn take_out(entries: &mut [u64], boxes: &mut [u64], mempool: Mempool, id: Id) -> Mempool
     requires { PoolFits entries.old boxes.old mempool.counts }
     ensures value { result ≡ recounted mempool result.counts }
     ensures tabled { PoolKept entries.old boxes.old mempool.counts → Tabled entries.new boxes.new mempool result (remove_tx (id_of id) (tables_of entries.old boxes.old mempool.counts)) }

@@ -9,7 +9,7 @@ pub returns-in-Err-clause-answer_promise : goal.returns-in-Err-clause-answer_pro
 returns-in-Err-clause-answer_promise c = answer-stopped _ _ _ _ _ _ _ c.check_answer.ensures.value _ c.in-Err.is c.check_answer.ensures.refusal_value
 
 pub returns-then-not-answer_resolved-clause-answer_promise : goal.returns-then-not-answer_resolved-clause-answer_promise
-returns-then-not-answer_resolved-clause-answer_promise c = answer-missing _ _ _ _ _ _ _ c.check_answer.ensures.value (ap code_of c.in_default.is) (rw (c.new-found.ensures.0, c.new-found.ensures.1) at c.answer_resolved.ensures) (ap not c.if-not-answer_resolved.true) _ _ _ c.take_out-after.ensures
+returns-then-not-answer_resolved-clause-answer_promise c = answer-missing _ _ _ _ _ _ _ c.check_answer.ensures.value (ap code_of c.in_default.is) (rw (c.new-found.ensures.0, c.new-found.ensures.1) at c.answer_resolved.ensures) (ap not c.if-not-answer_resolved.true) _ _ _ c.answer_out-after.ensures
 
 pub returns-clause-answer_promise : goal.returns-clause-answer_promise
 returns-clause-answer_promise c = answer-weighed _ _ _ _ _ _ _ c.check_answer.ensures.value (ap code_of c.in_default.is) (rw (c.new-found.ensures.0, c.new-found.ensures.1) at c.answer_resolved.ensures) (ap not c.if-not-answer_resolved.false) _ _ _ _ _ c.weigh.ensures.pass_post
