@@ -83,7 +83,7 @@ pub fn number_or<'a>(rest: &'a [u8], absent: &[u8]) -> Option<(Option<u64>, &'a 
     Some((Some(value), rest))
 }
 
-// What stands inside a verdict's brackets.
+// What stands inside a verdict's brackets. The words are compared one after the other, as in read.rt: a `match` on byte strings leaves a goal for each byte.
 fn judge(inside: &[u8]) -> Option<Verdict>
     ensures { MatchOption result (NoJudge inside.now) (λ v. JudgeAt inside.now v) }
 {
