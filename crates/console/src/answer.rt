@@ -8,11 +8,18 @@ use pool_types::Refusal;
 use replies::pieces::text;
 
 #[tactic(auto, unfolding(crate::specs::Console::refused_text))]
-pub fn refused(out: &mut [u8], refusal: Refusal) -> usize
+pub fn refused(out: &mut [u8], n: u64) -> usize
+    requires { 32768 ≤ length out.old }
+    ensures { Prints (refused_text n) 0 out.old out.new result }
+{
+    replies::with_number(out, b"(refused ", n)
+}
+
+pub fn refused_for(out: &mut [u8], refusal: Refusal) -> usize
     requires { 32768 ≤ length out.old }
     ensures { Prints (refused_text (refusal_number refusal)) 0 out.old out.new result }
 {
-    replies::with_number(out, b"(refused ", refusal.into())
+    refused(out, refusal.into())
 }
 
 #[tactic(auto, unfolding(crate::specs::Console::unread_text))]

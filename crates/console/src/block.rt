@@ -8,7 +8,7 @@ ghost use Rattle.console.specs.Console.{removed_text};
 ghost use Rattle.pool_types.specs.Outcomes.{written_of};
 ghost use Rattle.console.specs.Desk.{HoldsWith, AfterIn, SameLengths, altered_in};
 
-use crate::answer::refused;
+use crate::answer::refused_for;
 use crate::desk::{Desk, Held};
 use blocks::apply_block_by_value;
 use lines::read::BlockForm;
@@ -37,7 +37,7 @@ fn tell_removed(
 {
     match outcome {
         Ok(_) => with_ids(out, b"(removed", desk.answer, written),
-        Err(refusal) => refused(out, refusal),
+        Err(refusal) => refused_for(out, refusal),
     }
 }
 

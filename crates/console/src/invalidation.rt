@@ -8,7 +8,7 @@ ghost use Rattle.console.specs.declared.calls.Change.TheVariants.{Invalidate};
 ghost use Rattle.console.specs.Console.{w_invalidated, or_refused};
 ghost use Rattle.console.specs.Desk.{HoldsWith, AfterIn, SameLengths, altered_in};
 
-use crate::answer::refused;
+use crate::answer::refused_for;
 use crate::desk::{Desk, Held};
 use pool_types::Refusal;
 use replies::with_id;
@@ -22,7 +22,7 @@ fn tell_invalidated(out: &mut [u8], id: Id, outcome: Result<(), Refusal>) -> usi
 {
     match outcome {
         Ok(()) => with_id(out, b"(invalidated ", id),
-        Err(refusal) => refused(out, refusal),
+        Err(refusal) => refused_for(out, refusal),
     }
 }
 

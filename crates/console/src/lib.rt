@@ -21,7 +21,7 @@ use crate::answer::{no_pool, unread};
 use crate::calls::Call;
 use crate::change::alter;
 use crate::desk::Desk;
-use crate::query::ask;
+use crate::query::ask_on_desk;
 use crate::start::on_pool;
 
 // Makes the call that line `number` asked for, and answers how long its answer is, which stands at the start of `out`. The words of its lists stand at
@@ -48,7 +48,7 @@ pub fn tell(
             None => no_pool(out),
         },
         Call::Ask(q) => match desk.held {
-            Some(held) => ask(desk, held, listing, one, q, out),
+            Some(held) => ask_on_desk(desk, held, listing, one, q, out),
             None => no_pool(out),
         },
         Call::Unreadable => unread(out, number),

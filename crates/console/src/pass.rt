@@ -6,7 +6,7 @@ ghost use Rattle.console.specs.declared.calls.Change.TheVariants.{Open, Next, An
 ghost use Rattle.console.specs.Console.{pass_text};
 ghost use Rattle.console.specs.Desk.{HoldsWith, AfterIn, SameLengths, SameWords, altered_in};
 
-use crate::answer::refused;
+use crate::answer::refused_for;
 use crate::desk::{Desk, Held};
 use cleanup::{answer, next, open};
 use pool_types::{AnswerOutcome, NextOutcome, Refusal, Verdict};
@@ -20,7 +20,7 @@ fn tell_opened(out: &mut [u8], outcome: Result<(), Refusal>) -> usize
 {
     match outcome {
         Ok(()) => text(out, 0, b"(opened)"),
-        Err(refusal) => refused(out, refusal),
+        Err(refusal) => refused_for(out, refusal),
     }
 }
 
@@ -34,7 +34,7 @@ fn tell_offered(out: &mut [u8], outcome: Result<NextOutcome, Refusal>) -> usize
             NextOutcome::Candidate(id) => with_id(out, b"(candidate ", id),
             NextOutcome::Ended(sum) => with_number(out, b"(ended ", sum),
         },
-        Err(refusal) => refused(out, refusal),
+        Err(refusal) => refused_for(out, refusal),
     }
 }
 
@@ -50,7 +50,7 @@ fn tell_answered(out: &mut [u8], outcome: Result<AnswerOutcome, Refusal>) -> usi
             AnswerOutcome::FoundInvalid(id) => with_id(out, b"(invalid ", id),
             AnswerOutcome::FoundValid(id) => with_id(out, b"(valid ", id),
         },
-        Err(refusal) => refused(out, refusal),
+        Err(refusal) => refused_for(out, refusal),
     }
 }
 

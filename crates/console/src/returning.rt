@@ -8,7 +8,7 @@ ghost use Rattle.console.specs.declared.calls.Change.TheVariants.{Return};
 ghost use Rattle.console.specs.Console.{w_returned, or_refused, unconfirmed_of};
 ghost use Rattle.console.specs.Desk.{HoldsWith, AfterIn, SameLengths, altered_in};
 
-use crate::answer::refused;
+use crate::answer::refused_for;
 use crate::desk::{Desk, Held};
 use crate::submit::source_of;
 use lines::read::ReturnForm;
@@ -42,7 +42,7 @@ fn tell_returned(out: &mut [u8], id: Id, outcome: Result<(), Refusal>) -> usize
 {
     match outcome {
         Ok(()) => with_id(out, b"(returned ", id),
-        Err(refusal) => refused(out, refusal),
+        Err(refusal) => refused_for(out, refusal),
     }
 }
 

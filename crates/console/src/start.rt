@@ -4,7 +4,7 @@ ghost use Rattle.mempool.specs.Start.{started};
 ghost use Rattle.console.specs.Console.{config_of};
 ghost use Rattle.console.specs.Desk.{HoldsIn, AfterIn, SameWords, kept_of, unwritten, sizes_in, started_in};
 
-use crate::answer::refused;
+use crate::answer::refused_for;
 use crate::desk::{Desk, Held};
 use lines::read::PoolForm;
 use mempool::start;
@@ -70,7 +70,7 @@ pub(crate) fn on_pool(desk: &mut Desk<'_>, p: PoolForm, out: &mut [u8]) -> usize
         }
         Err(refusal) => {
             desk.held = unwritten(desk.held);
-            refused(out, refusal)
+            refused_for(out, refusal)
         }
     }
 }

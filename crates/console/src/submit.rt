@@ -9,7 +9,7 @@ ghost use Rattle.console.specs.Console.{source_of, submission_of, tx_text};
 ghost use Rattle.pool_types.specs.Outcomes.{written_of};
 ghost use Rattle.console.specs.Desk.{HoldsWith, AfterIn, SameLengths, altered_in};
 
-use crate::answer::refused;
+use crate::answer::refused_for;
 use crate::desk::{Desk, Held};
 use lines::read::TxForm;
 use pool_types::{ProcessingOutcome, Refusal, Source, Submission};
@@ -75,9 +75,9 @@ fn tell_processed(
     match outcome {
         ProcessingOutcome::Accepted => with_id(out, b"(accepted ", id),
         ProcessingOutcome::Replaced(_) => replaced(out, id, desk.answer, written),
-        ProcessingOutcome::DoubleSpendLoser(_) => refused(out, Refusal::DoubleSpend),
+        ProcessingOutcome::DoubleSpendLoser(_) => refused_for(out, Refusal::DoubleSpend),
         ProcessingOutcome::VerdictNeeded => text(out, 0, b"(verdict needed)"),
-        ProcessingOutcome::Declined(refusal) => refused(out, refusal),
+        ProcessingOutcome::Declined(refusal) => refused_for(out, refusal),
     }
 }
 

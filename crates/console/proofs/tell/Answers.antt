@@ -26,7 +26,7 @@ pub returns-in-None-clause-after : goal.returns-in-None-clause-after
 returns-in-None-clause-after c = after-as (alter-lacks c.args.desk.now _ _ _ _ _ c.in-None.is c.in-Alter.is) (after_same _ _ _ _ _ _ _ _ _ _ c.requires.holds c.no_pool.ensures)
 
 pub returns-in-Some-held-clause-after : goal.returns-in-Some-held-clause-after
-returns-in-Some-held-clause-after c = after-as (line-asks c.args.desk.now _ _ _ _ _ c.in-Some-held.is c.in-Ask.is) (after_same _ _ _ _ _ _ _ _ _ _ c.requires.holds c.ask.ensures)
+returns-in-Some-held-clause-after c = after-as (line-asks c.args.desk.now _ _ _ _ _ c.in-Some-held.is c.in-Ask.is) (after_same _ _ _ _ _ _ _ _ _ _ c.requires.holds c.ask_on_desk.ensures)
 
 pub returns-in-None-held-clause-after : goal.returns-in-None-held-clause-after
 returns-in-None-held-clause-after c = after-as (ask-lacks c.args.desk.now _ _ _ _ _ c.in-None-held.is c.in-Ask.is) (after_same _ _ _ _ _ _ _ _ _ _ c.requires.holds c.no_pool-in-None-held.ensures)

@@ -12,4 +12,4 @@ returns-in-Ok c = prints-as (drawn-bins _ _ _ _ _ c.in-Ok.is c.pool_histogram_at
 
 -- src/estimates.rt:53:1
 pub returns-in-Err : goal.returns-in-Err
-returns-in-Err c = prints-as (drawn-not _ _ _ _ _ c.in-Err.is c.pool_histogram_at-drawn.ensures) c.refused.ensures
+returns-in-Err c = prints-as (drawn-not _ _ _ _ _ c.in-Err.is c.pool_histogram_at-drawn.ensures) c.refused_for.ensures

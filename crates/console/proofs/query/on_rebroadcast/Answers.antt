@@ -13,4 +13,4 @@ pub returns-in-Ok : goal.returns-in-Ok
 returns-in-Ok c k p = prints-as (sent-ids _ _ _ (c.select_for_rebroadcast-sent.ensures.rebroadcast_promise k (records p) c.requires.pool_fits.0 c.requires.pool_fits.1.boxes) c.in-Ok.is ∙ sent-cut _ _ _ _ _ _ c.min-m.ensures) c.with_ids.ensures
 
 pub returns-in-Err : goal.returns-in-Err
-returns-in-Err c k p = prints-as (sent-not _ _ _ (c.select_for_rebroadcast-sent.ensures.rebroadcast_promise k (records p) c.requires.pool_fits.0 c.requires.pool_fits.1.boxes) c.in-Err.is ∙ sent-cut _ _ _ _ _ _ c.min-m.ensures) c.refused.ensures
+returns-in-Err c k p = prints-as (sent-not _ _ _ (c.select_for_rebroadcast-sent.ensures.rebroadcast_promise k (records p) c.requires.pool_fits.0 c.requires.pool_fits.1.boxes) c.in-Err.is ∙ sent-cut _ _ _ _ _ _ c.min-m.ensures) c.refused_for.ensures

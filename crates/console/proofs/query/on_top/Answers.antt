@@ -12,4 +12,4 @@ returns-in-Ok c = prints-as (listed-rows _ _ _ c.in-Ok.is c.top-listed.ensures).
 
 -- src/query.rt:23:1
 pub returns-in-Err : goal.returns-in-Err
-returns-in-Err c = prints-as (listed-not _ _ _ c.in-Err.is c.top-listed.ensures) c.refused.ensures
+returns-in-Err c = prints-as (listed-not _ _ _ c.in-Err.is c.top-listed.ensures) c.refused_for.ensures
