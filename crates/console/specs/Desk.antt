@@ -18,6 +18,7 @@ use Rattle.console.specs.declared.calls.Change.{Change}
 use Rattle.console.specs.declared.calls.Query.{Query}
 use Rattle.console.specs.declared.desk.Desk.{Desk}
 use Rattle.console.specs.declared.desk.Held.{Held}
+use Rattle.console.specs.declared.desk.Told as desk
 
 -- what is held where a start was accepted
 abbrev pub kept : Held → Kept
@@ -30,6 +31,10 @@ kept_of None = nothing
 -- .. by a changing call that wrote no id
 abbrev pub unwritten : Kept → Kept
 unwritten h = record { ready = h.ready; mempool = h.mempool; stats = h.stats; written = 0 }
+
+-- a call's effect, of what is held after it
+abbrev pub told : desk.Told → Told
+told t = record { kept = kept_of t.held; len = t.len }
 
 abbrev pub HoldsWith : Desk → Held → Type 0
 HoldsWith d h = Holds d.entries.now d.boxes.now d.cache.now d.peers.now d.answer.now (kept h)

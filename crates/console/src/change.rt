@@ -3,12 +3,12 @@ ghost use Rattle.std.specs.Prelude.{◌≤◌, length, take};
 ghost use Rattle.console.specs.Calls.{words_of};
 ghost use Rattle.console.specs.Desk.{HoldsWith, AfterIn, SameLengths, altered_in};
 
-use crate::block::on_block;
+use crate::block::block_on_desk;
 use crate::calls::{Change, words_of};
 use crate::desk::{Desk, Held};
-use crate::invalidation::on_invalidate;
-use crate::pass::{on_answer, on_next, on_open};
-use crate::returning::on_return;
+use crate::invalidation::invalidate_on_desk;
+use crate::pass::{answer_on_desk, next_on_desk, open_on_desk};
+use crate::returning::return_on_desk;
 use crate::submit::on_tx;
 
 // `one` and `two` are the form's lists.
@@ -27,17 +27,19 @@ fn make(
 {
     match change {
         Change::Submit(t) => on_tx(desk, held, one, two, t, out),
-        Change::Return(g) => on_return(desk, held, one, two, g, out),
-        Change::Block(g) => on_block(desk, held, one, two, g, out),
-        Change::Invalidate(time, id) => on_invalidate(desk, held, time, id, out),
-        Change::Open(time, limit, preheader) => on_open(desk, held, time, limit, preheader, out),
-        Change::Next => on_next(desk, held, out),
-        Change::Answer(_, verdict) => on_answer(desk, held, one, verdict, out),
+        Change::Return(g) => return_on_desk(desk, held, one, two, g, out),
+        Change::Block(g) => block_on_desk(desk, held, one, two, g, out),
+        Change::Invalidate(time, id) => invalidate_on_desk(desk, held, time, id, out),
+        Change::Open(time, limit, preheader) => open_on_desk(
+            desk, held, time, limit, preheader, out,
+        ),
+        Change::Next => next_on_desk(desk, held, out),
+        Change::Answer(_, verdict) => answer_on_desk(desk, held, one, verdict, out),
     }
 }
 
 // The form's lists stand at the front of `one` and of `two`.
-pub(crate) fn alter(
+pub fn alter(
     desk: &mut Desk<'_>,
     held: Held,
     one: &[u64],

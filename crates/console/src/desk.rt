@@ -12,6 +12,13 @@ pub struct Held {
     pub written: usize,
 }
 
+// A call's effect where it is lent single slices: what is held after it, and the length of its answer.
+#[derive(Clone, Copy)]
+pub struct Told {
+    pub held: Option<Held>,
+    pub len: usize,
+}
+
 // Nothing is held before the first `(ready)`. No call changes how many words there are. That the words fit what is held is no ghost field: between a
 // call and the storing of its state they do not.
 #[derive(Drop)]

@@ -22,7 +22,7 @@ use crate::calls::Call;
 use crate::change::alter;
 use crate::desk::Desk;
 use crate::query::ask_on_desk;
-use crate::start::on_pool;
+use crate::start::start_on_desk;
 
 // Makes the call that line `number` asked for, and answers how long its answer is, which stands at the start of `out`. The words of its lists stand at
 // the front of `one` and of `two`; lists that a query answers with go through `listing`, so that the ids in `desk.answer` stay until the next changing
@@ -42,7 +42,7 @@ pub fn tell(
     ensures same_lengths { SameLengths desk.old desk.new }
 {
     match call {
-        Call::Start(p) => on_pool(desk, p, out),
+        Call::Start(p) => start_on_desk(desk, p, out),
         Call::Alter(g) => match desk.held {
             Some(held) => alter(desk, held, one, two, g, out),
             None => no_pool(out),

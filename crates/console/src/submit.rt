@@ -81,7 +81,7 @@ fn tell_processed(
     }
 }
 
-pub(crate) fn on_tx(
+pub fn on_tx(
     desk: &mut Desk<'_>,
     held: Held,
     inputs: &[u64],

@@ -11,8 +11,8 @@ pub returns-in-Start : goal.returns-in-Start
 unfolding lacks_pool
 returns-in-Start c =
     record {
-      after = after-as (line-called _ _ _ _ _ _ _ _ _ _ _ {t = false} (rw c.in-Start.is refl) refl ∙ called-started _ _ _ _ _ _ _ _ _ _ _ _ c.in-Start.is) c.on_pool.ensures.after;
-      same_lengths = as-long c.on_pool.ensures.same_words;
+      after = after-as (line-called _ _ _ _ _ _ _ _ _ _ _ {t = false} (rw c.in-Start.is refl) refl ∙ called-started _ _ _ _ _ _ _ _ _ _ _ _ c.in-Start.is) c.start_on_desk.ensures.after;
+      same_lengths = as-long c.start_on_desk.ensures.same_words;
     }
 
 pub returns-in-Unreadable-clause-after : goal.returns-in-Unreadable-clause-after

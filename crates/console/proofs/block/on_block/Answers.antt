@@ -5,8 +5,8 @@ use Rattle.console.specs.Laws.{says-applied, after-applied}
 use Rattle.peers.specs.Flat.{records}
 use Rattle.console.proofs.block.on_block.Goals as goal
 
-pub returns-clause-after : goal.returns-clause-after
+pub returns : goal.returns
 unfolding altered
-returns-clause-after c y =
-    after-applied _ _ _ _ _ _ _ _ _ _ _ _ (c.apply_block_by_value-done.ensures.block_promise (records c.args.desk.now.peers.now) y.store) (says-applied _ _ _ _ _ _ _) _ _ _
+returns c p y =
+    after-applied _ _ _ _ _ _ _ _ _ _ _ _ (c.apply_block_by_value-done.ensures.block_promise (records p) y.store) (says-applied _ _ _ _ _ _ _) _ _ _
     (record { ready = refl; mempool = refl; stats = refl; written = omega (arith, c.min-written.ensures, c.removed_of.ensures); prints = c.tell_removed.ensures })

@@ -3,6 +3,6 @@ use Rattle.console.specs.Laws.{after-pass}
 use Rattle.peers.specs.Flat.{records}
 use Rattle.console.proofs.pass.on_answer.Goals as goal
 
-pub returns-clause-after : goal.returns-clause-after
+pub returns : goal.returns
 unfolding altered
-returns-clause-after c n s y = after-pass _ _ _ _ _ _ _ _ _ _ _ _ _ _ _ _ (c.answer-answered.ensures.answer_promise (records c.args.desk.now.peers.now) y.store) c.tell_answered.ensures
+returns c n p a s y = after-pass _ _ _ _ _ _ _ _ _ _ _ _ _ _ _ _ (c.answer-answered.ensures.answer_promise (records p) y.store) c.tell_answered.ensures
