@@ -86,7 +86,9 @@ fn enter(
             outputs: Ids::new(lists.outputs, 7),
         },
     );
-    propagate_family_weight(pool, e.id, e.base);
+    // lent from here, since of a field that is lent to be read nothing is known afterwards
+    let boxes = &mut *pool.boxes;
+    propagate_family_weight(pool.entries, boxes, pool.counts, e.id, e.base);
     evict_to(pool, capacity, answer, at, write)
 }
 

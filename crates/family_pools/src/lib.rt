@@ -61,7 +61,9 @@ pub fn enter(pool: &mut PoolMut<'_>, id: u64, base: u64, inputs: &[u64], outputs
 // Enters a newcomer of base 1 and has it credit its family.
 pub fn arrive(pool: &mut PoolMut<'_>, id: u64, inputs: &[u64], outputs: &[u64]) {
     enter(pool, id, 1, inputs, outputs);
-    propagate_family_weight(pool, id_of(id), 1);
+    // lent from here, since of a field that is lent to be read nothing is known afterwards
+    let boxes = &mut *pool.boxes;
+    propagate_family_weight(pool.entries, boxes, pool.counts, id_of(id), 1);
 }
 
 // ---- what is printed

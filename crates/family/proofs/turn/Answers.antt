@@ -5,8 +5,8 @@ use Rattle.family.specs.Steps.{popped, went_up}
 use Rattle.family.proofs.turn.Goals as goal
 
 pub returns-in-None-clause-turned : goal.returns-in-None-clause-turned
-returns-in-None-clause-turned c k = popped _ _ _ _ _ _ c.requires.0 (omega arith) _ _ _ refl ((rw (c.boxes.ensures.0, c.boxes.ensures.1) at c.last_parent.ensures) k.boxes) c.in-None.is k.entries
+returns-in-None-clause-turned c k b = popped _ _ _ _ _ _ c.requires.depth_nonzero.0 (omega arith) _ _ _ refl (c.last_parent.ensures b) c.in-None.is k
 
 pub returns-else-w-eq0-clause-turned : goal.returns-else-w-eq0-clause-turned
-returns-else-w-eq0-clause-turned c k =
-    went_up _ _ _ _ _ _ c.requires.0 (omega arith) _ _ _ refl ((rw (c.boxes.ensures.0, c.boxes.ensures.1) at c.last_parent.ensures) k.boxes) _ (rows_bound _ _ c.args.pool.now.fits.boxes) _ c.in-Some.is c.if-w-eq0.false _ _ (c.visit.ensures.visited k.entries)
+returns-else-w-eq0-clause-turned c k b =
+    went_up _ _ _ _ _ _ c.requires.depth_nonzero.0 (omega arith) _ _ _ refl (c.last_parent.ensures b) _ (rows_bound _ _ c.args.boxes.now.fits) _ c.in-Some.is c.if-w-eq0.false _ _ (c.visit.ensures k)
