@@ -7,9 +7,8 @@ use Rattle.std.proofs.Math.Seq.{length-sets}
 use Rattle.words.specs.Rows.{stored, stored-sets, sets-before, sets-after}
 use Rattle.words.specs.Ids.{num, id_of, id_at, id_words}
 use Rattle.words.specs.declared.ids.Id.{Id}
-use Rattle.boxes.specs.Kinds.{kind_number, kind_of}
 use Rattle.boxes.specs.Slots.{Slot}
-use Rattle.boxes.specs.Layout.{box_slots, part_slots, id_place, kind_place, link_place, head_place, key_place, OfRow, of_row, row-unique, kind_row, last_row, link-off, head-low, key_at, kind_at, slot_of, slot_at, kind-same}
+use Rattle.boxes.specs.Layout.{box_slots, part_slots, id_place, kind_place, link_place, head_place, key_place, OfRow, of_row, row-unique, kind_row, last_row, link-off, head-low, key_at, kind_at, slot_of, slot_at}
 use Rattle.boxes.specs.Index.{Indexed, slot-ext, indexed-same}
 
 -- the record of one slot is another; all other words are as they were
@@ -95,9 +94,9 @@ put-parts l n x y q h =
     (record { here = row_here l n x y q h; words = row_out l n x y q h })
 
 -- a slot that is read whole
-pub read_kind : (l : List ℕ) (i : ℕ) {x y q : ℕ} → x ≡ key_at l 0 i → y ≡ key_at l 1 i → q ≡ kind_number (kind_of (kind_at l i)) → slot_of x y q ≡ slot_at l i
+pub read_whole : (l : List ℕ) (i : ℕ) {x y q : ℕ} → x ≡ key_at l 0 i → y ≡ key_at l 1 i → q ≡ kind_at l i → slot_of x y q ≡ slot_at l i
 unfolding slot_at
-read_kind l i e f g = (λ t. slot_of (e t) (f t) (g t)) ∙ kind-same (key_at l 0 i) (key_at l 1 i) (kind_at l i)
+read_whole l i e f g = λ t. slot_of (e t) (f t) (g t)
 
 -- ---- the kind alone
 

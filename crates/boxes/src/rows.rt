@@ -54,12 +54,20 @@ pub(crate) fn column_id(s: &[u64], c: usize, i: usize) -> Id
     get_id(s, i * 11 + c * 6)
 }
 
+// The word of a slot's kind.
 #[tactic(auto, unfolding(crate::specs::Layout::kind_at))]
+fn kind_word(s: &[u64], i: usize) -> u64
+    requires { i < box_slots s.now }
+    ensures { result ≡ kind_at s.now i }
+{
+    s[i * 11 + 4]
+}
+
 fn kind_at(s: &[u64], i: usize) -> Kind
     requires { i < box_slots s.now }
     ensures { result ≡ kind_of (kind_at s.now i) }
 {
-    Kind::from(s[i * 11 + 4])
+    Kind::from(kind_word(s, i))
 }
 
 // The box of the record in slot `i`.
@@ -123,26 +131,35 @@ pub(crate) fn is_entry(s: &[u64], i: usize, out: bool, key: Id) -> bool
 
 // ---- what is written
 
-// Writes the record of slot `i` of a part that starts with a slot. The words of the indexes stay as they are.
-pub(crate) fn put_slot(s: &mut [u64], i: usize, key: Id, owner: Id, kind: Kind)
+// Writes the record of slot `i` of a part that starts with a slot, its kind as a word. The words of the indexes stay as they are.
+fn put_whole(s: &mut [u64], i: usize, key: Id, owner: Id, kind: u64)
     requires { i < part_slots s.old }
-    ensures { Put s.old s.new i (slot_of (id_of key) (id_of owner) (kind_number kind)) }
+    ensures { Put s.old s.new i (slot_of (id_of key) (id_of owner) kind) }
 {
     let p = i * 11;
     put_id(s, p, key);
     put_id(s, p + 6, owner);
-    s[p + 4] = u64::from(kind);
+    s[p + 4] = kind;
 }
 
-// The record in slot `from`, written to slot `to` too.
+// The same, of a kind that is known.
+pub(crate) fn put_slot(s: &mut [u64], i: usize, key: Id, owner: Id, kind: Kind)
+    requires { i < part_slots s.old }
+    ensures { Put s.old s.new i (slot_of (id_of key) (id_of owner) (kind_number kind)) }
+{
+    put_whole(s, i, key, owner, u64::from(kind));
+}
+
+// The record in slot `from`, written to slot `to` too. The word of its kind goes as it stands: in words that no start left it may be one that no `Kind`
+// is written as.
 pub(crate) fn move_box(s: &mut [u64], from: usize, to: usize)
     requires { (from < box_slots s.old) × (to < box_slots s.old) }
     ensures { Put s.old s.new to (slot_at s.old from) }
 {
     let key = column_id(s, 0, from);
     let owner = column_id(s, 1, from);
-    let kind = kind_at(s, from);
-    put_slot(s, to, key, owner, kind);
+    let kind = kind_word(s, from);
+    put_whole(s, to, key, owner, kind);
 }
 
 // Slot `i` is free to be used again. It stays in its chains.

@@ -1,21 +1,17 @@
 -- The entries by rank: their order, pointwise; the rank of a weight and an id, found by halving; and what the search for an id finds. A rank that is inserted
 -- or left out is insertion or removal in the list.
 use Rattle.std.specs.Prelude.{None, Some}
-use Rattle.std.specs.Prelude.{ℕ, zero, suc, ◌+◌, ◌*◌, ◌≤◌, ◌<◌, ◌≡◌, Bool, List, [], ◌∷◌, map, length, eqb, ltb}
-use Rattle.std.specs.List.Sorted.{IsPartitionedBy, IsPartitionPoint}
+use Rattle.std.specs.Prelude.{ℕ, zero, suc, ◌+◌, ◌≤◌, ◌<◌, ◌≡◌, Bool, List, [], ◌∷◌, map, eqb, ltb}
 use Rattle.std.proofs.Common.{suc-le-suc, ◌∙◌, le_of_suc-le-suc, add-zero, arith, eq-eqb, ne_eqb, lt-ltb, le-ltb}
 use Rattle.std.proofs.Math.Path.{refl, sym, ap}
 use Rattle.std.proofs.Math.Bool.{true, false}
 use Rattle.std.proofs.Math.Decide.{ℕ_discrete, dec_lt}
-use Rattle.std.proofs.Math.ListN.{get_or}
-use Rattle.std.proofs.lemmas.List.Edits.{get_or-between, length-between}
-use Rattle.std.proofs.lemmas.Grind.{get_or_default_zero}
 use Rattle.words.specs.Lists.{pick, insert_at, remove_at, count, Once, once-cons}
 use Rattle.words.specs.Rows.{tab, tab-ext}
 use Rattle.entries.specs.Entries.{Entry, weight_of, key_of, ahead, insert_by, pooled, place_from, place_of}
 use Rattle.entries.specs.Order.{before, Behind, Sorted, asym, trans}
 use Rattle.entries.specs.InOrder.{EntriesInOrder}
-use Rattle.entries.specs.Cells.{slot_count, slot_words, raw_at, ranks_of, slot_named, slot_of, entry_in, entry_at, entries_of}
+use Rattle.entries.specs.Cells.{entry_at, entries_of}
 
 -- ---- the order
 
@@ -55,42 +51,37 @@ pub record Ranks (l : List ℕ) (n w k r : ℕ) : Type 0 where
   pub below : Ordered (entry_at l) n → (q : ℕ) → q < r → ahead_of (entry_at l q) w k ≡ true
   pub above : Ordered (entry_at l) n → (q : ℕ) → r ≤ q → q < n → ahead_of (entry_at l q) w k ≡ false
 
--- what `partition_point` finds among the words of the first n ranks
-module _ (l ranks : List ℕ) (n w k : ℕ) (room : n ≤ slot_count l) (e : ranks ≡ ranks_of l n) where
-  -- whether the entry that a rank's word names is ahead
-  abbrev pub names-ahead : ℕ → Bool
-  names-ahead x = ahead_of (entry_in l (slot_named l x)) w k
+pub record Halves (l : List ℕ) (n w k lo hi : ℕ) : Type 0 where
+  pub low : lo ≤ hi
+  pub high : hi ≤ n
+  pub below : Ordered (entry_at l) n → (r : ℕ) → r < lo → ahead_of (entry_at l r) w k ≡ true
+  pub above : Ordered (entry_at l) n → (r : ℕ) → hi ≤ r → r < n → ahead_of (entry_at l r) w k ≡ false
 
-  many : length ranks ≡ n
-  many = rw e (length-between l (slot_count l * slot_words) (slot_count l * slot_words + n) (omega arith) ∙ omega arith)
+pub halves-all : (l : List ℕ) (n w k : ℕ) → Halves l n w k 0 n
+halves-all l n w k = record { low = omega arith; high = omega arith; below = λ x r h. absurd (omega arith); above = λ x r h g. absurd (omega arith) }
 
-  ahead-at : (q d : ℕ) → q < n → names-ahead (get_or ranks q d) ≡ ahead_of (entry_at l q) w k
-  unfolding entry_at slot_of raw_at
-  ahead-at q d h =
-      rw e
-      (ap names-ahead (get_or-between l (slot_count l * slot_words) (slot_count l * slot_words + n) q d (omega arith) ∙ get_or_default_zero l (slot_count l * slot_words + q) d (omega arith)))
-
-  pub parted : Ordered (entry_at l) n → IsPartitionedBy names-ahead ranks
+module _ (l : List ℕ) (n w k lo hi mid : ℕ) (s : Halves l n w k lo hi) (a : lo ≤ mid) (b : mid < hi) where
+  pub halves-up : ahead_of (entry_at l mid) w k ≡ true → Halves l n w k (mid + 1) hi
   unfolding Ordered
-  parted o = λ i j d h g t. go i j d g t (ℕ_discrete i j) h
+  halves-up t = record { low = omega arith; high = s.high; below = λ x r h. go x r h (ℕ_discrete r mid); above = s.above }
     where
-      go : (i j d : ℕ) → j < length ranks → names-ahead (get_or ranks j d) ≡ true → Dec (i ≡ j) → i ≤ j → names-ahead (get_or ranks i d) ≡ true
-      go i j d g t (yes e) h = rw e t
-      go i j d g t (no e) h =
-          ahead-at i d (omega (arith, many))
-          ∙ ahead-trans (entry_at l i) (entry_at l j) w k (o i j (omega (arith, e)) (omega (arith, many))) (sym (ahead-at j d (omega (arith, many))) ∙ t)
+      go : ((a b : ℕ) → a < b → b < n → before weight_of key_of (entry_at l a) (entry_at l b) ≡ true) → (r : ℕ) → r < mid + 1 → Dec (r ≡ mid) → ahead_of (entry_at l r) w k ≡ true
+      go x r h (yes e) = rw e t
+      go x r h (no e) = ahead-trans (entry_at l r) (entry_at l mid) w k (x r mid (omega (arith, e)) (omega (arith, s.high))) t
 
-  pub rank-is : (r : ℕ) → r ≤ length ranks → (IsPartitionedBy names-ahead ranks → IsPartitionPoint (λ x. names-ahead x ≡ true) (λ x. names-ahead x ≡ false) ranks r) → Ranks l n w k r
-  rank-is r h p =
-      record {
-        low = omega (arith, many);
-        below = λ o q b. sym (ahead-at q 0 (omega (arith, many))) ∙ (p (parted o)).0 q 0 (omega arith) b;
-        above = λ o q b c. sym (ahead-at q 0 c) ∙ (p (parted o)).1 q 0 b (omega (arith, many));
-      }
+  pub halves-down : ahead_of (entry_at l mid) w k ≡ false → Halves l n w k lo mid
+  unfolding Ordered
+  halves-down t =
+      record { low = a; high = omega (arith, s.high); below = s.below; above = λ x r h g. go x r g (ahead_of (entry_at l r) w k) refl (dec_lt mid r) h }
+    where
+      go : ((a b : ℕ) → a < b → b < n → before weight_of key_of (entry_at l a) (entry_at l b) ≡ true) → (r : ℕ) → r < n → (u : Bool) → ahead_of (entry_at l r) w k ≡ u → Dec (mid < r) → mid ≤ r → u ≡ false
+      go x r g false e d h = refl
+      go x r g true e (yes d) h = sym (ahead-trans (entry_at l mid) (entry_at l r) w k (x mid r d g) e) ∙ t
+      go x r g true e (no d) h = let z : mid ≡ r = omega (arith, d) in sym (rw z e) ∙ t
 
--- where there are no ranks
-pub rank-none : (l : List ℕ) (n w k : ℕ) → n ≡ 0 → Ranks l n w k 0
-rank-none l n w k e = record { low = omega arith; below = λ s q b. absurd (omega arith); above = λ s q b c. absurd (omega arith) }
+pub halves-end : (l : List ℕ) (n w k lo hi : ℕ) → Halves l n w k lo hi → hi ≤ lo → Ranks l n w k lo
+halves-end l n w k lo hi s h =
+    record { low = omega (arith, s.low, s.high); below = s.below; above = λ x q g. s.above x q (omega (arith, h, g)) }
 
 -- ---- a list by its elements, in which one comes in or is left out
 

@@ -4,7 +4,7 @@
 
 ghost use Rattle.std.specs.Prelude.{◌≡◌, ◌+◌, ◌*◌, ◌≤◌, ◌<◌};
 ghost use Rattle.words.specs.Ids.{id_of};
-ghost use Rattle.entries.specs.Cells.{slot_count, slot_words, Stands, cell, raw_at, put_cell, put_raw, known_of, slot_named, slot_of, ranks_of, id_in};
+ghost use Rattle.entries.specs.Cells.{slot_count, slot_words, Stands, cell, raw_at, put_cell, put_raw, known_of, slot_named, slot_of, id_in};
 
 use words::ids::{Id, get_id};
 
@@ -53,15 +53,6 @@ pub(crate) fn place(s: &[u64], r: usize) -> usize
     ensures { result ≡ slot_count s.now * slot_words + r }
 {
     slots(s) * SLOT + r
-}
-
-// The words of the first n ranks.
-pub(crate) fn ranks(s: &[u64], n: usize) -> &[u64]
-    requires { n ≤ slot_count s.now }
-    ensures { result.now ≡ ranks_of s.now n }
-{
-    let first = slots(s) * SLOT;
-    &s[first..first + n]
 }
 
 // The word of rank `r`.

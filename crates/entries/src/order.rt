@@ -7,7 +7,7 @@ ghost use Rattle.entries.specs.Ranks.{ahead_of, Ranks};
 ghost use Rattle.entries.specs.Turns.{inward, outward};
 ghost use Rattle.entries.specs.Held.{Turned};
 
-use crate::cells::{WEIGHT, get, id_in, place, ranks, slot_named};
+use crate::cells::{WEIGHT, get, id_in, place, slot_at};
 use words::ids::Id;
 
 // Whether the entry in slot `i` is ahead of a weight and an id, which is read only on a tie.
@@ -27,10 +27,18 @@ pub(crate) fn rank(s: &[u64], n: usize, weight: u64, id: Id) -> usize
     requires { n ≤ slot_count s.now }
     ensures { Ranks s.now n weight (id_of id) result }
 {
-    if n == 0 {
-        return 0;
+    let mut lo = 0;
+    let mut hi = n;
+    // std's `partition_point` halves at other places, and so gives another rank where the words of ranks are in no order, which a host may lend
+    while lo < hi {
+        let mid = lo + (hi - lo) / 2;
+        if is_ahead(s, slot_at(s, mid), weight, id) {
+            lo = mid + 1;
+        } else {
+            hi = mid;
+        }
     }
-    ranks(s, n).partition_point(|word| is_ahead(s, slot_named(s, *word), weight, id))
+    lo
 }
 
 // The first word becomes the last, by one move of memory. std's `rotate_left` says the same, and moves back in parts: at 4,000 words it takes 1.4 times as long.

@@ -1,7 +1,9 @@
--- `rows::put_slot` meets its contract: nine words, by two calls and a store (`put-parts`). Assumes nothing.
-use Rattle.boxes.specs.Kinds.{kind_number}
-use Rattle.boxes.specs.Stores.{put-parts}
+-- `rows::put_slot` meets its contract: the word is the kind's number. Assumes nothing.
+use Rattle.std.proofs.Common.{subst, ap}
+use Rattle.words.specs.Ids.{id_of}
+use Rattle.boxes.specs.Layout.{slot_of}
+use Rattle.boxes.specs.Stores.{Put}
 use Rattle.boxes.proofs.rows.put_slot.Goals as goal
 
 pub returns : goal.returns
-returns c = rw (c.put_id-2.ensures, c.put_id.ensures, c.from.ensures) (put-parts c.args.s.now c.args.i c.args.key c.args.owner (kind_number c.args.kind) c.requires)
+returns c = subst (Put _ _ _) (ap (slot_of (id_of c.args.key) (id_of c.args.owner)) c.from.ensures) c.put_whole.ensures
