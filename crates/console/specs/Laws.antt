@@ -207,6 +207,10 @@ module _ (e b k p a e' b' k' p' a' : List ℕ) (h : Kept) (r : Done ProcessingOu
         written = held-processed;
       }
 
+-- a part that ends where a number or the list does has as many as it says
+pub cut-is : (r a : ℕ) (l : List ℕ) → r ≡ min a (length l) → r ≡ length (take r l)
+cut-is r a l q = omega (arith, length-take r l)
+
 -- the lists are cut where the form's numbers of words say, or where the words end
 pub after-cut : (e b k p a e' b' k' p' a' o₀ o : List ℕ) (h : Kept) (t : Told) (f s : List ℕ) (g : Change) (c : Words) (n m : ℕ) → c ≡ words_of g → n ≡ min c.one (length f) → m ≡ min c.two (length s)
     → After e' b' k' p' a' o₀ o t (altered e b k p a h (take n f) (take m s) g) → After e' b' k' p' a' o₀ o t (altered e b k p a h (take (words_of g).one f) (take (words_of g).two s) g)

@@ -14,7 +14,7 @@ use Rattle.std.specs.Char.{digit_value}
 use Rattle.words.specs.Lists.{pick}
 use Rattle.words.specs.Ids.{Words}
 use Rattle.words.specs.declared.ids.Id.{Id}
-use Rattle.forms.specs.Text.{within}
+use Rattle.forms.specs.Text.{within, part}
 use Rattle.forms.specs.TextLaws.{true-false, by_bool}
 use Rattle.forms.specs.Nums.{digit_of, is_digits, more, number, decimal, is_hex, front, last16, joined, id_number, id_of_digits, id_read, digit_byte, numeral, decimal_text, id_text, over, Prints, Digits, Numeral, Stepped, Lower, Shows, Printed, upto, Pads, Padded, Sofar, Words16, Walked}
 
@@ -511,6 +511,15 @@ pub back : (b v limit : ℕ) (t : List ℕ) (r : Option ℕ) → Shows b v t →
 unfolding Numeral
 back b v limit t (Some w) s h n = ap Some (n.1 ∙ s.value)
 back b v limit t None s h n = absurd (n s.digits (omega (arith, s.value)))
+
+-- what stands where it was printed
+pub printed-part : (b v width at : ℕ) (x y : List ℕ) (r : ℕ) → at + width ≤ length x → (p : Printed b v width at x y r) → part at r y ≡ p.text
+printed-part b v width at x y r room p =
+    let n : r - at ≡ length p.text = omega (arith, p.ends) in
+    let m : length (take at x) ≡ at = length-take-le at x (omega arith) in
+    ap₂ (λ (k : ℕ) (z : List ℕ). take k (drop at z)) n p.wrote
+    ∙ ap (λ (z : List ℕ). take (length p.text) z) (drop_at (take at x) (p.text ++ drop (at + length p.text) x) at m)
+    ∙ take_at p.text (drop (at + length p.text) x) (length p.text) refl
 
 -- ---- ids printed
 

@@ -1,6 +1,6 @@
 -- Readable lines. Document 01: "one bracket form a line (at most 4,096 bytes; a list holds words and further lists, at most 8 deep, the form itself
 -- counted)"; "Members are parted by at least one space; more may stand outside words." What a line says, its members, stands apart from its spelling.
-use Rattle.std.specs.Prelude.{ℕ, suc, ◌<◌, ◌≤◌, ◌≡◌, refl, Bool, true, false, List, [], ◌∷◌, ◌++◌, length, replicate, leb, eqb, Option, Some, None}
+use Rattle.std.specs.Prelude.{ℕ, suc, ◌-◌, ◌<◌, ◌≤◌, ◌≡◌, refl, Bool, true, false, List, [], ◌∷◌, ◌++◌, length, replicate, take, drop, leb, eqb, Option, Some, None}
 use Rattle.words.specs.Lists.{pick}
 use Rattle.forms.specs.declared.text.Member.{Member}
 use Rattle.forms.specs.declared.text.Member.TheVariants.{Word, Open, Close}
@@ -66,6 +66,10 @@ Reads d g s (sub i m) t =
 unfoldable pub run : (ℕ → Bool) → List ℕ → ℕ
 run p [] = 0
 run p (x ∷ s) = pick (p x) (suc (run p s)) 0
+
+-- from a up to e
+abbrev pub part : ℕ → ℕ → List ℕ → List ℕ
+part a e l = take (e - a) (drop a l)
 
 -- ---- what the reader finds at a place, of which s is left: for later readers, which take a list apart member by member
 

@@ -79,6 +79,10 @@ pub record Serves (room : ℕ) (s s' : State) (i i' o o' : Stand) : Type 0 where
 
 -- ---- a line
 
+-- a part that ends where a length or the list does has as many as it says
+pub cut-is : (r a : ℕ) (l : List ℕ) → r ≡ min a (length l) → r ≡ length (take r l)
+cut-is r a l q = omega (arith, length-take r l)
+
 -- the line in progress ends where its buffer does, at the latest
 pub cut_line : (n m : ℕ) (l : List ℕ) → m ≡ min n (length l) → take m l ≡ take n l
 cut_line n m l q = go (leb n (length l)) refl
